@@ -1,0 +1,2 @@
+mod DelayLaws
+mod DepthLaws
