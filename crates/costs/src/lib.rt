@@ -7,7 +7,6 @@ ghost use mathlib.Core.Path.{_≡_};
 ghost use mathlib.Core.Bool.{true, false};
 ghost use Prim.Native.Nat.{ℕ, _+_, _≤_};
 ghost use Rattle.costs.specs.Algebra.{Algebra, Lawful, reach};
-
 pub use delay::Delay;
 pub use delay::DelayCost;
 pub use depth::Depth;
