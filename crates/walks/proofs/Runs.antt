@@ -22,7 +22,7 @@ module _ (A : Algebra) (card : ℕ → ℕ → Option (A .Value)) where
   Runs s (m ∷ ms) t x = (a : A .Value) × (b : A .Value) × (card s m ≡ Some a) × Runs m ms t b × (x ≡ A .join a b)
 
 module _ {A : Algebra} (L : Lawful A) (card : ℕ → ℕ → Option (A .Value)) where
-  join-unit : (a : A .Value) → A .join a (A .unit) ≡ a
+  pub join-unit : (a : A .Value) → A .join a (A .unit) ≡ a
   join-unit a = L .comm a (A .unit) ∙ L .neutral a
 
   pub to-runs : (s : ℕ) (ms : List ℕ) (t : ℕ) → Walk A card (path s ms t) → Runs A card s ms t (cost A card (path s ms t))

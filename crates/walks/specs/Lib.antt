@@ -1,2 +1,3 @@
 pub mod Walk
 pub mod Theorems
+pub mod Price

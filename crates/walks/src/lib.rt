@@ -1,6 +1,5 @@
-// Walks over cards.
-ghost use Rattle.walks.specs.Theorems.{FoldStep};
+// Walks over the cards of a register: what they cost, and which cost least.
+mod pricing;
 
-pub fn nothing() -> u8 {
-    0
-}
+pub use pricing::Unpriced;
+pub use pricing::price;
