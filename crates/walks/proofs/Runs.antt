@@ -31,7 +31,7 @@ module _ {A : Algebra} (L : Lawful A) (card : ℕ → ℕ → Option (A .Value))
   to-runs s (m ∷ k ∷ ms) t w = (_, _, some-of (card s m) (A .unit) (w .0), to-runs m (k ∷ ms) t (w .1), refl)
 
   -- the cost of one card more in front
-  pub more : (s m : ℕ) (fs : List ℕ) (a b x : A .Value) → card s m ≡ Some a → cost A card (m ∷ fs) ≡ b → x ≡ A .join a b → cost A card (s ∷ m ∷ fs) ≡ x
+  more : (s m : ℕ) (fs : List ℕ) (a b x : A .Value) → card s m ≡ Some a → cost A card (m ∷ fs) ≡ b → x ≡ A .join a b → cost A card (s ∷ m ∷ fs) ≡ x
   more s m fs a b x c e j = ap (λ o. A .join (valueOr o (A .unit)) (cost A card (m ∷ fs))) c ∙ ap (A .join a) e ∙ sym j
 
   pub of-runs : (s : ℕ) (ms : List ℕ) (t : ℕ) (x : A .Value) → Runs A card s ms t x → Walk A card (path s ms t) × (cost A card (path s ms t) ≡ x)
