@@ -123,7 +123,7 @@ module _ (ticked : List Bool) (v : ℕ) (free : getD ticked v false ≡ false) w
   absent-free [] k = tt
   absent-free (f ∷ fs) k = (λ e. other f (k .0) (sym e), absent-free fs (k .1))
 
-  ticked-kept : (fs : List ℕ) → Ticked ticked fs → Ticked (set ticked v true) fs
+  pub ticked-kept : (fs : List ℕ) → Ticked ticked fs → Ticked (set ticked v true) fs
   ticked-kept [] k = tt
   ticked-kept (f ∷ fs) k = (getD-set-other ticked v f true false (other f (k .0)) ∙ k .0, ticked-kept fs (k .1))
 
@@ -154,8 +154,8 @@ Grown A card d t ticked next = (v : ℕ) → getD ticked v false ≡ true → Le
 
 module _ (A : Algebra) (card : ℕ → ℕ → Option (A .Value)) (d : ℕ → Option (A .Value)) (t : ℕ) (ticked : List Bool) (next : List ℕ) where
   -- the tree begins with t alone
-  pub grown-start : d t ≡ Some (A .unit) → ((v : ℕ) → getD ticked v false ≡ false) → t < length ticked → Grown A card d t (set ticked t true) next
-  grown-start at-t free l v k = go (cases-eq v t)
+  pub grown-start : d t ≡ Some (A .unit) → ((v : ℕ) → getD ticked v false ≡ false) → Grown A card d t (set ticked t true) next
+  grown-start at-t free v k = go (cases-eq v t)
     where
       go : (v ≡ t) ⊎ (v ≡ t → ⊥) → Led A card d t (set ticked t true) next v
       go (inl e) = record { formats = v ∷ []; follows = (refl, e); distinct = (tt, tt); inside = (k, tt); walks = λ ne. absurd (ne e); costs = ap d e ∙ at-t }
