@@ -1,19 +1,19 @@
 -- Walks are cut at repeated formats to chains that cost no more, where no closed walk gains.
 -- A chain has few cards, so a least cost lies within few cards.
-use mathlib.Core.Path.{_≡_, refl, sym, ap, subst, subst₂, _∙_}
+use mathlib.Core.Path.{_≡_, refl, sym, ap, subst, subst₂}
 use mathlib.Core.Logic.{_⊎_, inl, inr}
 use mathlib.Core.List.{List, [], _∷_, _++_}
-use Prim.Native.Nat.{ℕ, zero, suc, max, _+_, _-_, _<_, _≤_}
+use Prim.Native.Nat.{ℕ, zero, suc, max, _-_, _<_, _≤_}
 use native.Mathlib.Omega.{arith}
 use lib.ListN.{length, length-append}
 use Rattle.std.specs.declared.option.Option.{Option}
-use Rattle.std.specs.declared.option.Option.the-variants.{Some, None}
+use Rattle.std.specs.declared.option.Option.the-variants.{Some}
 use Rattle.std.proofs.shelf.Tests.{cases-order, cases-eq}
 use Rattle.costs.specs.Algebra.{Algebra, Lawful, reach}
-use Rattle.walks.specs.Walk.{path, Below, Absent, Distinct, Walk, cost, Chain, WalkCosts, LowWalkCosts, Least, LowLeast, Gains, GainsAt}
+use Rattle.walks.specs.Walk.{path, Below, Absent, Distinct, cost, LowLeast, Gains, GainsAt}
 use Rattle.walks.specs.Theorems.{Sound, CutToChain, LeastIsNear}
 use Rattle.walks.proofs.Runs.{Runs, to-runs, of-runs, runs-split}
-use Rattle.walks.proofs.Least.{AtMost, at-most-self, at-most-trans, at-most-both, at-most-joined, at-most-more, at-most-after}
+use Rattle.walks.proofs.Least.{AtMost, at-most-self, at-most-trans, at-most-both, at-most-front, drop-front, drop-back}
 use Rattle.walks.proofs.Fold.{Low, below-mono, below-join, to-low, of-low}
 use Rattle.walks.proofs.Loops.{runs-inside, no-low-loop}
 
@@ -92,15 +92,13 @@ module _ {A : Algebra} (L : Lawful A) (card : ℕ → ℕ → Option (A .Value))
   cut-runs h calm s [] t x b r = ([], x, tt, tt, r, at-most-self L x)
   cut-runs h calm s (m ∷ ms) t x b r = go (cut-runs h calm m ms t (r .1) (b .1) (r .3))
     where
-      front : (y : A .Value) → AtMost A y (r .1) → AtMost A (A .join (r .0) y) x
-      front y e = subst (λ z. AtMost A (A .join (r .0) y) z) (sym (r .4)) (at-most-joined L (r .0) (r .0) y (r .1) (at-most-self L (r .0)) e)
       at : (c : Cut h m t (r .1)) → Absent m (c .0) ⊎ ((is : List ℕ) × (js : List ℕ) × (c .0 ≡ is ++ m ∷ js)) → Cut h s t x
-      at (ks, z, l, d, q, u) (inl a) = (m ∷ ks, A .join (r .0) z, (b .0, l), (a, d), (r .0, z, r .2, q, refl), front z u)
+      at (ks, z, l, d, q, u) (inl a) = (m ∷ ks, A .join (r .0) z, (b .0, l), (a, d), (r .0, z, r .2, q, refl), at-most-front L (r .0) z (r .1) x u (r .4))
       at (ks, z, l, d, q, u) (inr (is, js, g)) =
           let p = below-parts h is (m ∷ js) (subst (Below h) g l) in
           let v = runs-split L card m is m js t z (subst (λ l. Runs A card m l t z) g q) in
           (m ∷ js, A .join (r .0) (v .1), (b .0, p .1 .1), distinct-back is m js (subst Distinct g d), (r .0, v .1, r .2, v .3, refl),
-            front (v .1) (at-most-trans L (v .1) z (r .1) (subst (λ y. AtMost A (v .1) y) (sym (v .4)) (at-most-more L (v .0) (v .1) (calm m (b .0) (v .0) (is, p .0, v .2)))) u))
+            at-most-front L (r .0) (v .1) (r .1) x (drop-front L (v .0) (v .1) z (r .1) (calm m (b .0) (v .0) (is, p .0, v .2)) (v .4) u) (r .4))
       go : Cut h m t (r .1) → Cut h s t x
       go c = at c (find m (c .0))
 
@@ -119,7 +117,7 @@ module _ {A : Algebra} (L : Lawful A) (card : ℕ → ℕ → Option (A .Value))
     off-start s ks t y d r (inr (is, js, g)) =
         let p = distinct-back is s js (subst Distinct g d) in
         let v = runs-split L card s is s js t y (subst (λ l. Runs A card s l t y) g r) in
-        (js, v .1, p .0, p .1, v .3, subst (λ z. AtMost A (v .1) z) (sym (v .4)) (at-most-more L (v .0) (v .1) (closed-calm s is (v .0) (v .2))))
+        (js, v .1, p .0, p .1, v .3, drop-front L (v .0) (v .1) y y (closed-calm s is (v .0) (v .2)) (v .4) (at-most-self L y))
 
     off-end : (s : ℕ) (ks : List ℕ) (t : ℕ) (y : A .Value) → Absent s ks → Distinct ks → Runs A card s ks t y → Absent t ks ⊎ ((is : List ℕ) × (js : List ℕ) × (ks ≡ is ++ t ∷ js)) →
         (js : List ℕ) × (z : A .Value) × Absent s js × Absent t js × Distinct js × Runs A card s js t z × AtMost A z y
@@ -127,7 +125,7 @@ module _ {A : Algebra} (L : Lawful A) (card : ℕ → ℕ → Option (A .Value))
     off-end s ks t y a d r (inr (is, js, g)) =
         let p = distinct-front is t js (subst Distinct g d) in
         let v = runs-split L card s is t js t y (subst (λ l. Runs A card s l t y) g r) in
-        (is, v .0, absent-parts s is (t ∷ js) (subst (Absent s) g a) .0, p .1, p .0, v .2, subst (λ z. AtMost A (v .0) z) (sym (v .4)) (at-most-after L (v .0) (v .1) (closed-calm t js (v .1) (v .3))))
+        (is, v .0, absent-parts s is (t ∷ js) (subst (Absent s) g a) .0, p .1, p .0, v .2, drop-back L (v .0) (v .1) y y (closed-calm t js (v .1) (v .3)) (v .4) (at-most-self L y))
 
     chain-of : (s : ℕ) (ms : List ℕ) (t : ℕ) (x : A .Value) → (s ≡ t → ⊥) → Runs A card s ms t x → (ks : List ℕ) × (z : A .Value) × Distinct (path s ks t) × Runs A card s ks t z × AtMost A z x
     chain-of s ms t x n r =

@@ -1,18 +1,18 @@
 -- Walks with low inner formats, and the fold of one more format into the least costs over them.
--- `Low h s t x` is `LowWalkCosts` by its list of inner formats; `calm-at h` says that no closed walk at h gains.
+-- `Low h s t x` is `LowWalkCosts` by its list of inner formats; `Calm h` says that no closed walk at h gains.
 use mathlib.Core.Path.{_≡_, refl, sym, ap, subst, _∙_}
-use mathlib.Core.Logic.{_⊎_, inl, inr, ⊎-elim}
+use mathlib.Core.Logic.{_⊎_, inl, inr}
 use mathlib.Core.List.{List, [], _∷_, _++_}
 use Prim.Native.Nat.{ℕ, suc, _<_, _≤_}
 use native.Mathlib.Omega.{arith}
 use Rattle.std.specs.declared.option.Option.{Option}
-use Rattle.std.specs.declared.option.Option.the-variants.{Some, None}
+use Rattle.std.specs.declared.option.Option.the-variants.{Some}
 use Rattle.std.proofs.shelf.Tests.{cases-order}
 use Rattle.costs.specs.Algebra.{Algebra, Lawful}
-use Rattle.walks.specs.Walk.{path, Below, LeastOf, WalkCosts, LowWalkCosts, LowLeast, Gains, GainsAt}
-use Rattle.walks.specs.Theorems.{Either, FoldStep}
+use Rattle.walks.specs.Walk.{Below, LeastOf, LowWalkCosts, LowLeast, GainsAt}
+use Rattle.walks.specs.Theorems.{FoldStep}
 use Rattle.walks.proofs.Runs.{Runs, to-runs, of-runs, runs-join}
-use Rattle.walks.proofs.Least.{AtMost, Covers, OrJoin, at-most-self, at-most-trans, at-most-joined, at-most-more, at-most-after, least-cover, least-same, least-either}
+use Rattle.walks.proofs.Least.{AtMost, Covers, OrJoin, at-most-self, at-most-front, drop-front, least-cover, least-same, least-either}
 
 pub below-mono : (h k : ℕ) (ms : List ℕ) → h ≤ k → Below h ms → Below k ms
 below-mono h k [] e b = tt
@@ -65,14 +65,14 @@ module _ {A : Algebra} (L : Lawful A) (card : ℕ → ℕ → Option (A .Value))
       c : A .Value
       c = r .0
       front : (y : A .Value) → AtMost A y (r .1) → AtMost A (A .join c y) x
-      front y e = subst (λ z. AtMost A (A .join c y) z) (sym (r .4)) (at-most-joined L c c y (r .1) (at-most-self L c) e)
+      front y e = at-most-front L c y (r .1) x e (r .4)
       more : (y : A .Value) (k : ℕ) → m < h → Low A card h m k y → Low A card h s k (A .join c y)
       more y k l w = (m ∷ w .0, (l, w .1), (c, y, r .2, w .2, refl))
       go : (m ≡ h) ⊎ ((m < h) ⊎ (h < m)) → Covers A (Passes h m t) (r .1) → Covers A (Passes h s t) x
       go (inl e) (y, inl w, d) = (A .join c y, inr (c, y, ([], tt, subst (λ k. card s k ≡ Some c) e (r .2)), subst (λ k. Low A card h k t y) e w, refl), front y d)
       go (inl e) (y, inr (a, k, v, w, f), d) =
           let loop = calm a (subst (λ n. Low A card h n h a) e v) in
-          (A .join c k, inr (c, k, ([], tt, subst (λ n. card s n ≡ Some c) e (r .2)), w, refl), front k (at-most-trans L k y (r .1) (subst (λ z. AtMost A k z) (sym f) (at-most-more L a k loop)) d))
+          (A .join c k, inr (c, k, ([], tt, subst (λ n. card s n ≡ Some c) e (r .2)), w, refl), front k (drop-front L a k y (r .1) loop f d))
       go (inr (inl l)) (y, inl w, d) = (A .join c y, inl (more y t l w), front y d)
       go (inr (inl l)) (y, inr (a, k, v, w, f), d) = (A .join c y, inr (A .join c a, k, more a h l v, w, ap (A .join c) f ∙ sym (L .assoc c a k)), front y d)
       go (inr (inr l)) p = absurd (omega arith)

@@ -1,7 +1,7 @@
 -- Costs in their order, and the least cost with a property.
 -- A least cost is known by two facts: what there is has the property, and for each y with the property one is there, at most y.
 use mathlib.Core.Path.{_≡_, refl, sym, ap, subst, subst₂, _∙_}
-use mathlib.Core.Logic.{_⊎_, inl, inr, ⊎-elim}
+use mathlib.Core.Logic.{_⊎_, inl, inr}
 use Rattle.std.specs.Options.{isSome}
 use Rattle.std.specs.declared.option.Option.{Option}
 use Rattle.std.specs.declared.option.Option.the-variants.{Some, None}
@@ -43,11 +43,16 @@ module _ {A : Algebra} (L : Lawful A) where
   pub at-most-joined : (a b c d : A .Value) → AtMost A a b → AtMost A c d → AtMost A (A .join a c) (A .join b d)
   at-most-joined a b c d p q = at-most-trans _ (A .join b c) _ (L .keeps a b c p) (subst₂ (λ x y. AtMost A x y) (L .comm c b) (L .comm d b) (L .keeps c d b q))
 
-  pub at-most-more : (a b : A .Value) → AtMost A (A .unit) a → AtMost A b (A .join a b)
-  at-most-more a b p = subst (λ x. AtMost A x (A .join a b)) (L .neutral b) (L .keeps (A .unit) a b p)
+  -- the same cost in front of both
+  pub at-most-front : (c y z x : A .Value) → AtMost A y z → x ≡ A .join c z → AtMost A (A .join c y) x
+  at-most-front c y z x p e = subst (λ v. AtMost A (A .join c y) v) (sym e) (at-most-joined c c y z (at-most-self c) p)
 
-  pub at-most-after : (a b : A .Value) → AtMost A (A .unit) b → AtMost A a (A .join a b)
-  at-most-after a b p = subst (λ x. AtMost A a x) (L .comm b a) (at-most-more b a p)
+  -- a part that does not undercut the unit is dropped
+  pub drop-front : (a b y x : A .Value) → AtMost A (A .unit) a → y ≡ A .join a b → AtMost A y x → AtMost A b x
+  drop-front a b y x p e = at-most-trans b y x (subst₂ (λ u v. AtMost A u v) (L .neutral b) (sym e) (L .keeps (A .unit) a b p))
+
+  pub drop-back : (a b y x : A .Value) → AtMost A (A .unit) b → y ≡ A .join a b → AtMost A y x → AtMost A a x
+  drop-back a b y x p e = drop-front b a y x p (e ∙ L .comm a b)
 
   pub least-has : (P : A .Value → Type 0) (o : Option (A .Value)) (x : A .Value) → LeastOf A P o → o ≡ Some x → P x
   least-has P None x l e = absurd (false≢true (ap isSome e))

@@ -1,18 +1,17 @@
 -- The looks: a look at h finds a closed walk exactly where one gains, and no closed walk escapes all of them.
 -- `no-low-loop` is the statement for walks with inner formats below h, which needs no more than the looks below h.
-use mathlib.Core.Path.{_≡_, refl, sym, ap, subst, _∙_}
+use mathlib.Core.Path.{_≡_, refl, sym, subst, _∙_}
 use mathlib.Core.Logic.{_⊎_, inl, inr}
-use mathlib.Core.List.{List, [], _∷_, _++_}
+use mathlib.Core.List.{List, [], _∷_}
 use Prim.Native.Nat.{ℕ, zero, suc, _<_, _≤_}
 use native.Mathlib.Omega.{arith}
 use Rattle.std.specs.declared.option.Option.{Option}
-use Rattle.std.specs.declared.option.Option.the-variants.{Some, None}
 use Rattle.std.proofs.shelf.Tests.{cases-order}
 use Rattle.costs.specs.Algebra.{Algebra, Lawful}
-use Rattle.walks.specs.Walk.{path, Below, LowLeast, LowWalkCosts, Gains, GainsAt}
+use Rattle.walks.specs.Walk.{Below, LowLeast, LowWalkCosts, GainsAt}
 use Rattle.walks.specs.Theorems.{Sound, Found, LookFinds, NoHiddenLoop}
 use Rattle.walks.proofs.Runs.{Runs, to-runs}
-use Rattle.walks.proofs.Least.{AtMost, Covers, at-most-self, at-most-trans, at-most-joined, at-most-more, least-has, least-serves}
+use Rattle.walks.proofs.Least.{AtMost, Covers, at-most-trans, at-most-joined, drop-front, least-serves}
 use Rattle.walks.proofs.Fold.{Low, Calm, Passes, to-low, of-low, calm-at, low-mono, low-join, pass}
 
 module _ {A : Algebra} (L : Lawful A) (card : ℕ → ℕ → Option (A .Value)) where
@@ -33,8 +32,7 @@ module _ {A : Algebra} (L : Lawful A) (card : ℕ → ℕ → Option (A .Value))
       go : (j ≡ h) ⊎ ((j < h) ⊎ (h < j)) → ((i : ℕ) → i < h → (y : A .Value) → Low A card h i i y → AtMost A (A .unit) y) → Covers A (Passes L card h j j) x → AtMost A (A .unit) x
       go (inl e) lower (y, inl v, d) = at-most-trans L (A .unit) y x (here y (subst (λ i. Low A card h i i y) e v)) d
       go (inl e) lower (y, inr (a, b, u, v, f), d) =
-          at-most-trans L (A .unit) y x (subst (λ z. AtMost A (A .unit) z) (sym f)
-            (at-most-trans L (A .unit) b (A .join a b) (here b (subst (λ i. Low A card h h i b) e v)) (at-most-more L a b (here a (subst (λ i. Low A card h i h a) e u))))) d
+          at-most-trans L (A .unit) b x (here b (subst (λ i. Low A card h h i b) e v)) (drop-front L a b y x (here a (subst (λ i. Low A card h i h a) e u)) f d)
       go (inr (inl m)) lower (y, inl v, d) = at-most-trans L (A .unit) y x (lower j m y v) d
       go (inr (inl m)) lower (y, inr (a, b, u, v, f), d) =
           at-most-trans L (A .unit) y x (subst (λ z. AtMost A (A .unit) z) (L .comm b a ∙ sym f) (here (A .join b a) (low-join L card h h j h b a m v u))) d

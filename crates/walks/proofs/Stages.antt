@@ -1,19 +1,19 @@
 -- What the three stages of the search need: where a fold changes nothing, and what the third stage holds in a cell.
 -- `ThirdCosts n k s t`: the walks through formats below both ends, and those by way of a format from k on that is above both.
-use mathlib.Core.Path.{_≡_, refl, sym, ap, subst, _∙_}
-use mathlib.Core.Logic.{_⊎_, inl, inr, ⊎-elim}
+use mathlib.Core.Path.{_≡_, refl, sym, ap, subst}
+use mathlib.Core.Logic.{_⊎_, inl, inr}
 use mathlib.Core.List.{List, [], _∷_, _++_}
 use Prim.Native.Nat.{ℕ, suc, max, _<_, _≤_}
 use native.Mathlib.Omega.{arith}
 use Rattle.std.specs.declared.option.Option.{Option}
-use Rattle.std.specs.declared.option.Option.the-variants.{Some, None}
+use Rattle.std.specs.declared.option.Option.the-variants.{Some}
 use Rattle.std.proofs.shelf.Tests.{cases-lt, cases-order}
 use Rattle.costs.specs.Algebra.{Algebra, Lawful}
-use Rattle.walks.specs.Walk.{path, Below, LeastOf, WalkCosts, LowWalkCosts, Least, LowLeast, GainsAt}
+use Rattle.walks.specs.Walk.{Below, LeastOf, WalkCosts, LowWalkCosts, Least, LowLeast, GainsAt}
 use Rattle.walks.specs.Theorems.{Sound, Either}
 use Rattle.walks.proofs.Runs.{Runs, to-runs, of-runs, runs-join, runs-split}
-use Rattle.walks.proofs.Least.{AtMost, Covers, OrJoin, at-most-self, at-most-trans, at-most-more, at-most-after, least-made, least-cover, least-same, least-either}
-use Rattle.walks.proofs.Fold.{Low, Calm, Passes, to-low, of-low, to-least-low, of-least-low, calm-at, below-mono, low-mono, pass}
+use Rattle.walks.proofs.Least.{AtMost, Covers, OrJoin, at-most-self, drop-front, drop-back, least-made, least-cover, least-same, least-either}
+use Rattle.walks.proofs.Fold.{Low, Calm, Passes, of-low, to-least-low, of-least-low, calm-at, below-mono, low-mono, pass}
 use Rattle.walks.proofs.Loops.{runs-inside}
 
 module _ (A : Algebra) (card : ℕ → ℕ → Option (A .Value)) where
@@ -47,7 +47,7 @@ module _ {A : Algebra} (L : Lawful A) (card : ℕ → ℕ → Option (A .Value))
       calm = calm-at L card s g
       go : Covers A (Passes L card s s t) x → Covers A (Low A card s s t) x
       go (y, inl v, d) = (y, v, d)
-      go (y, inr (a, b, u, v, f), d) = (b, v, at-most-trans L b y x (subst (λ z. AtMost A b z) (sym f) (at-most-more L a b (calm a u))) d)
+      go (y, inr (a, b, u, v, f), d) = (b, v, drop-front L a b y x (calm a u) f d)
 
   skip-end : (s t : ℕ) → (GainsAt A card t → ⊥) → (x : A .Value) → Low A card (suc t) s t x → Covers A (Low A card t s t) x
   skip-end s t g x w = go (pass L card t calm s (w .0) t x (w .1) (w .2))
@@ -56,7 +56,7 @@ module _ {A : Algebra} (L : Lawful A) (card : ℕ → ℕ → Option (A .Value))
       calm = calm-at L card t g
       go : Covers A (Passes L card t s t) x → Covers A (Low A card t s t) x
       go (y, inl v, d) = (y, v, d)
-      go (y, inr (a, b, u, v, f), d) = (a, u, at-most-trans L a y x (subst (λ z. AtMost A a z) (sym f) (at-most-after L a b (calm b v))) d)
+      go (y, inr (a, b, u, v, f), d) = (a, u, drop-back L a b y x (calm b v) f d)
 
   -- folding in an end of the walk changes nothing
   pub low-start : (s t : ℕ) (o : Option (A .Value)) → (GainsAt A card s → ⊥) → LowLeast A card s s t o → LowLeast A card (suc s) s t o
