@@ -36,7 +36,7 @@ module _ (A : Algebra) where
 
   -- A look at h finds a closed walk through lower formats exactly where there is one, if no lower look found any.
   abbrev pub LookFinds : Type 0
-  LookFinds = (card : ℕ → ℕ → Option (A .Value)) (h : ℕ) → ((k : ℕ) → k < h → GainsAt A card k → ⊥) →
+  LookFinds = (n : ℕ) (card : ℕ → ℕ → Option (A .Value)) → Sound A n card → (h : ℕ) → ((k : ℕ) → k < h → GainsAt A card k → ⊥) →
       ((k : ℕ) → k < h → (o : Option (A .Value)) × LowLeast A card k h k o) → ((k : ℕ) → k < h → (o : Option (A .Value)) × LowLeast A card k k h o) →
       (((k : ℕ) × (k < h) × Found card h k) → GainsAt A card h) × (((k : ℕ) → k < h → Found card h k → ⊥) → GainsAt A card h → ⊥)
 
