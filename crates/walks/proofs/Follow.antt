@@ -15,6 +15,7 @@ use Rattle.std.proofs.shelf.Tests.{cases-lt, cases-eq, both-ways}
 use Rattle.costs.specs.Algebra.{Algebra, Lawful}
 use Rattle.walks.specs.Walk.{path, Below, Absent, Distinct, LeastOf, Walk, cost, Chain, WalkCosts, Least, Gains, Tight}
 use Rattle.walks.specs.Theorems.{Sound}
+use Rattle.walks.proofs.Cut.{distinct-few}
 use Rattle.walks.proofs.Tree.{tree-reaches}
 
 -- the formats of the list are those met from v on by `next`, up to t
@@ -67,34 +68,6 @@ module _ (next : List ℕ) (t : ℕ) where
   follows-path v (f ∷ g ∷ k ∷ fs) ne h =
       let (ms, e) = follows-path (getD next v 0) (g ∷ k ∷ fs) (h .2 .1) (h .2) in
       (getD next v 0 ∷ ms, ap (λ x. x ∷ g ∷ k ∷ fs) (h .0) ∙ ap (λ xs. v ∷ xs) e)
-
-module _ (n : ℕ) where
-  below-absent : (fs : List ℕ) → Below (suc n) fs → Absent n fs → Below n fs
-  below-absent [] b a = tt
-  below-absent (f ∷ fs) b a = (omega arith, below-absent fs (b .1) (a .1))
-
-  -- the list without n
-  record Without (fs : List ℕ) : Type 0 where
-    rest : List ℕ
-    below : Below n rest
-    distinct : Distinct rest
-    absent : (f : ℕ) → Absent f fs → Absent f rest
-    long : length fs ≤ suc (length rest)
-
-  without : (fs : List ℕ) → Below (suc n) fs → Distinct fs → Without fs
-  without [] b d = record { rest = []; below = tt; distinct = tt; absent = λ f a. tt; long = omega arith }
-  without (f ∷ fs) b d = split (without fs (b .1) (d .1)) (cases-eq f n)
-    where
-      split : Without fs → (f ≡ n) ⊎ (f ≡ n → ⊥) → Without (f ∷ fs)
-      split w (inl e) = record { rest = fs; below = below-absent fs (b .1) (rw e at (d .0)); distinct = d .1; absent = λ g a. a .1; long = omega arith }
-      split w (inr ne) = record { rest = f ∷ w .rest; below = (omega arith, w .below); distinct = (w .absent f (d .0), w .distinct);
-        absent = λ g a. (a .0, w .absent g (a .1)); long = omega arith }
-
--- there are no more different formats below n than n: take out the greatest, and lower the bound
-pub distinct-short : (n : ℕ) (fs : List ℕ) → Below n fs → Distinct fs → length fs ≤ n
-distinct-short zero [] b d = omega arith
-distinct-short zero (f ∷ fs) b d = omega arith
-distinct-short (suc n) fs b d = let w = without n fs b d in omega (arith, distinct-short n (w .rest) (w .below) (w .distinct))
 
 -- every format of the list is in the tree
 abbrev pub Ticked : List Bool → List ℕ → Type 0
@@ -200,7 +173,7 @@ module _ (A : Algebra) (card : ℕ → ℕ → Option (A .Value)) (d : ℕ → O
   led-chain v k ne = let (ms, e) = follows-path next t v (k .formats) ne (k .follows) in (ms, e, (rw e at (k .walks ne), rw e at (k .distinct)))
 
   pub led-short : (v : ℕ) (k : Led A card d t ticked next v) → length (k .formats) ≤ length ticked
-  led-short v k = distinct-short (length ticked) (k .formats) (ticked-below ticked (k .formats) (k .inside)) (k .distinct)
+  led-short v k = distinct-few (length ticked) (k .formats) (ticked-below ticked (k .formats) (k .inside)) (k .distinct)
 
 -- Growth has ended: no tight card leads into the tree from outside.
 module _ {A : Algebra} (L : Lawful A) (n : ℕ) (card : ℕ → ℕ → Option (A .Value)) (sound : Sound A n card) (gainless : Gains A card → ⊥)

@@ -1,3 +1,4 @@
 pub mod Walk
 pub mod Theorems
 pub mod Price
+pub mod Cells

@@ -1,5 +1,9 @@
 // Walks over the cards of a register: what they cost, and which cost least.
+mod cells;
 mod pricing;
 
+ghost use Rattle.walks.specs.Cells.{Laid};
+
+pub use cells::Cell;
 pub use pricing::Unpriced;
 pub use pricing::price;
