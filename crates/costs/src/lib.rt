@@ -38,3 +38,6 @@ pub trait Cost: Copy {
     fn admitted(self) -> bool
         ensures { λ r. ⌜ r ≡ algebra .admits (value self) ⌝ };
 }
+
+#[cfg(test)]
+mod tests;

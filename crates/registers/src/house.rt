@@ -85,7 +85,6 @@ pub impl Register for HouseTable as HouseRegister {
     }
 
     fn withdraw(&mut self, from: Format, to: Format) -> Result<(), RegisterFault> {
-        judge_ends(HOUSE_SIZE, from, to)?;
-        Err(RegisterFault::Sealed)
+        judge_ends(HOUSE_SIZE, from, to).and(Err(RegisterFault::Sealed))
     }
 }
