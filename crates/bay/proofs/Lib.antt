@@ -1,1 +1,3 @@
 pub mod LegSteps
+pub mod Granted
+pub mod LegCalls

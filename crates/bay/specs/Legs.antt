@@ -19,6 +19,10 @@ booked l = take (l .count) (l .list)
 abbrev pub no-leg : Leg
 no-leg = record { from = 0; to = 0; note = Open }
 
+-- a leg as it is booked
+abbrev pub open-leg : ℕ → ℕ → Leg
+open-leg a b = record { from = a; to = b; note = Open }
+
 -- the leg with another note
 abbrev pub noted : Note → Leg → Leg
 noted note leg = record { from = leg .from; to = leg .to; note = note }

@@ -1,1 +1,4 @@
 pub mod Legs
+pub mod Faults
+pub mod Plain
+pub mod Bays

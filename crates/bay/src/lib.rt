@@ -1,6 +1,14 @@
 // The bay: converter cards of a register, and the legs that are to be routed over them.
+mod bays;
+mod calls;
+mod fault;
+mod judge;
 mod legs;
 mod legs_calls;
 
+pub use bays::Bay;
+pub use calls::Call;
+pub use fault::BayFault;
+pub use fault::BayFaultFromRegister;
 pub use legs::Leg;
 pub use legs::Note;

@@ -9,8 +9,14 @@ ghost use Prim.Native.Nat.{ℕ, _+_, _≤_};
 ghost use Rattle.costs.specs.Algebra.{Algebra, Lawful, reach};
 pub use delay::Delay;
 pub use delay::DelayCost;
+pub use delay::DelayDebug;
+pub use delay::DelayEq;
+pub use delay::DelayPartialEq;
 pub use depth::Depth;
 pub use depth::DepthCost;
+pub use depth::DepthDebug;
+pub use depth::DepthEq;
+pub use depth::DepthPartialEq;
 
 // A cost kind. Its contracts speak of what a held cost means, by `value`.
 pub trait Cost: Copy {

@@ -8,15 +8,16 @@ use Rattle.std.specs.declared.option.Option.{Option}
 use Rattle.std.specs.declared.option.Option.the-variants.{Some, None}
 use Rattle.registers.specs.Fault.{code}
 use Rattle.registers.specs.declared.fault.Code.{Code}
+use Rattle.registers.specs.declared.fault.Layer.{Layer}
 use Rattle.registers.specs.declared.fault.Layer.the-variants.{Register}
 
 -- a register has at least two formats and at most so many
 abbrev pub most-formats : ℕ
 most-formats = 64
 
--- why two ends are refused, in order: one that is no format of n, and equal ends
-abbrev pub end-causes : ℕ → ℕ → ℕ → List (Bool × Code)
-end-causes n a b = (not (ltb a n), code Register 11 0) ∷ (not (ltb b n), code Register 11 1) ∷ (eqb a b, code Register 12 1) ∷ []
+-- why a layer refuses two ends, in order: one that is no format of n, and equal ends
+abbrev pub end-causes : Layer → ℕ → ℕ → ℕ → List (Bool × Code)
+end-causes l n a b = (not (ltb a n), code l 11 0) ∷ (not (ltb b n), code l 11 1) ∷ (eqb a b, code l 12 1) ∷ []
 
 pub record Meaning (V : Type 0) : Type 0 where
   -- how many formats there are: they are the numbers below
@@ -56,8 +57,8 @@ module _ {V : Type 0} where
   -- why enter is refused, in order: its ends, a cost that no card may have, a sealed pair, no free place
   abbrev pub enter-causes : Meaning V → ℕ → ℕ → Bool → List (Bool × Code)
   enter-causes m a b admitted =
-      end-causes (m .size) a b ++ (not admitted, code Register 13 2) ∷ (m .sealed a b, code Register 21 0) ∷ (not (isSome (standing m a b)) && eqb (m .free) 0, code Register 23 0) ∷ []
+      end-causes Register (m .size) a b ++ (not admitted, code Register 13 2) ∷ (m .sealed a b, code Register 21 0) ∷ (not (isSome (standing m a b)) && eqb (m .free) 0, code Register 23 0) ∷ []
 
   -- why withdraw is refused, in order: its ends, a sealed pair, no card
   abbrev pub withdraw-causes : Meaning V → ℕ → ℕ → List (Bool × Code)
-  withdraw-causes m a b = end-causes (m .size) a b ++ (m .sealed a b, code Register 21 0) ∷ (not (isSome (standing m a b)), code Register 22 0) ∷ []
+  withdraw-causes m a b = end-causes Register (m .size) a b ++ (m .sealed a b, code Register 21 0) ∷ (not (isSome (standing m a b)), code Register 22 0) ∷ []

@@ -12,7 +12,16 @@ ghost use Rattle.registers.specs.Meaning.{Meaning, meant, most-formats, standi
 use costs::Cost;
 pub use fault::Code;
 pub use fault::Layer;
+pub use fault::CodeDebug;
+pub use fault::CodeEq;
+pub use fault::CodePartialEq;
+pub use fault::LayerDebug;
+pub use fault::LayerEq;
+pub use fault::LayerPartialEq;
 pub use fault::RegisterFault;
+pub use fault::RegisterFaultDebug;
+pub use fault::RegisterFaultEq;
+pub use fault::RegisterFaultPartialEq;
 pub use house::HouseRegister;
 pub use house::HouseTable;
 
