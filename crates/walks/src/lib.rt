@@ -1,6 +1,7 @@
 // Walks over the cards of a register: what they cost, and which cost least.
 mod cells;
 mod pricing;
+mod trail;
 
 ghost use Rattle.walks.specs.Cells.{Laid};
 
