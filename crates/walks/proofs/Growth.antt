@@ -10,7 +10,7 @@ use lib.ListN.{length, getD, set, take, replicate}
 use borrow.Author.Count.{below-more}
 use Rattle.std.specs.Options.{Cases}
 use Rattle.std.specs.declared.option.Option.the-variants.{Some, None}
-use Rattle.std.proofs.shelf.Lists.{getD-set-same, getD-set-other, take-more-set, length-take-le}
+use Rattle.std.proofs.shelf.Lists.{getD-set-same, getD-set-other, take-more-set, length-take-le, length-set}
 use Rattle.std.proofs.shelf.Tests.{cases-eq, cases-bool, both-ways}
 use Rattle.costs.specs.Algebra.{Algebra, Lawful}
 use Rattle.walks.specs.Walk.{path, Chain, WalkCosts, cost}
@@ -70,35 +70,72 @@ wider-more before ticked count more queue longer v l w = record {
   front = λ k b. getD-set-other longer more k v 0 (omega (arith, w .rises)) ∙ w .front k b;
 }
 
+-- what holds of a scan of w with the formats below k looked at, where it began with `before`, `first` and `shorter`
+abbrev pub Turn : (A : Algebra) {C : Type 0} (value : C → A .Value) (n : ℕ) (cells : List (Cell C)) (goal : ℕ) (before : List Bool) (first : ℕ) (shorter : List ℕ)
+    (w k : ℕ) (ticked : List Bool) (next queue : List ℕ) (count : ℕ) → Type 0
+Turn A value n cells goal before first shorter w k ticked next queue count =
+    Growing A value n cells goal ticked next queue count × Wider before ticked first count shorter queue × Scanned A value n cells goal ticked w k
+
 module _ {A : Algebra} (L : Lawful A) {C : Type 0} (value : C → A .Value) (n : ℕ) (cells : List (Cell C)) (goal : ℕ) (ready : Ready A value n cells goal) where
-  pub growing-start : (ticked : List Bool) (next : List ℕ) → length ticked ≡ most-formats → Clear ticked →
+  pub growing-start : (ticked : List Bool) (next : List ℕ) → length ticked ≡ most-formats → length next ≡ most-formats → Clear ticked →
       Growing A value n cells goal (set ticked goal true) next (replicate most-formats goal) 1
-  growing-start ticked next t clear =
+  growing-start ticked next t x clear =
       let on : getD (set ticked goal true) goal false ≡ true = getD-set-same ticked goal true false (omega (arith, ready .inside, ready .few)) in
       record {
         grown = grown-start A (cards-in A value n cells) (to-goal A value n cells goal) goal ticked next (to-goal-goal L value n cells goal) clear;
         rooted = on;
         lined = record { short = omega (arith, ready .inside); below = (ready .inside, tt); distinct = (tt, tt); inside = (on, tt); all = λ v k. at v k (cases-eq v goal) };
+        long-ticked = length-set ticked goal true ∙ t;
+        long-next = x;
+        long-queue = refl;
       }
     where
       at : (v : ℕ) → getD (set ticked goal true) v false ≡ true → (v ≡ goal) ⊎ (v ≡ goal → ⊥) → (k : ℕ) × (k < 1) × (getD (replicate most-formats goal) k 0 ≡ v)
       at v k (inl e) = (0, omega arith, sym e)
       at v k (inr ne) = absurd (both-ways _ (getD-set-other ticked goal v true false ne ∙ clear v) k)
 
-  module _ (ticked : List Bool) (next queue : List ℕ) (count : ℕ) (t : length ticked ≡ most-formats) (x : length next ≡ most-formats) (q : length queue ≡ most-formats)
-      (growing : Growing A value n cells goal ticked next queue count) (v w : ℕ) (l : v < n) (free : getD ticked v false ≡ false) where
-    pub growing-room : count < most-formats
-    growing-room = omega (arith, lined-room n ticked queue count (growing .lined) v l free (omega (arith, ready .few)), ready .few)
+  -- what is not in the tree joins it
+  module _ (ticked : List Bool) (next queue : List ℕ) (count : ℕ) (growing : Growing A value n cells goal ticked next queue count)
+      (v : ℕ) (l : v < n) (free : getD ticked v false ≡ false) where
+    fits : (k : ℕ) → k ≡ most-formats → (n ≤ k) × (v < k)
+    fits k e = (omega (arith, ready .few), omega (arith, ready .few))
 
-    pub growing-more : getD ticked w false ≡ true → TightIn A value n cells goal v w → Growing A value n cells goal (set ticked v true) (set next v w) (set queue count v) (count + 1)
-    growing-more i tight = record {
-      grown = grown-more A (cards-in A value n cells) (to-goal A value n cells goal) goal ticked next (growing .grown) v w i free (omega (arith, ready .few)) (omega (arith, ready .few)) tight;
-      rooted = still-ticked ticked v goal (omega (arith, ready .few)) (growing .rooted);
-      lined = lined-more n ticked queue count (growing .lined) v l free (omega (arith, ready .few)) (omega (arith, ready .few));
+    pub growing-room : count < most-formats
+    growing-room = omega (arith, lined-room n ticked queue count (growing .lined) v l free (fits _ (growing .long-queue) .0), ready .few)
+
+    growing-more : (w : ℕ) → getD ticked w false ≡ true → TightIn A value n cells goal v w → Growing A value n cells goal (set ticked v true) (set next v w) (set queue count v) (count + 1)
+    growing-more w i tight = record {
+      grown = grown-more A (cards-in A value n cells) (to-goal A value n cells goal) goal ticked next (growing .grown) v w i free (fits _ (growing .long-ticked) .1) (fits _ (growing .long-next) .1) tight;
+      rooted = still-ticked ticked v goal (fits _ (growing .long-ticked) .1) (growing .rooted);
+      lined = lined-more n ticked queue count (growing .lined) v l free (fits _ (growing .long-ticked) .0) (fits _ (growing .long-queue) .0);
+      long-ticked = length-set ticked v true ∙ growing .long-ticked;
+      long-next = length-set next v w ∙ growing .long-next;
+      long-queue = length-set queue count v ∙ growing .long-queue;
     }
 
-    pub scanned-more : (to : ℕ) → Scanned A value n cells goal ticked to v → Scanned A value n cells goal (set ticked v true) to (v + 1)
-    scanned-more to s = below-more _ v (λ k b h. still-ticked ticked v k (omega (arith, ready .few)) (s k b h)) (λ _. getD-set-same ticked v true false (omega (arith, ready .few)))
+    scan-joins : (before : List Bool) (first : ℕ) (shorter : List ℕ) (w : ℕ) → getD before w false ≡ true → TightIn A value n cells goal v w →
+        Wider before ticked first count shorter queue → Scanned A value n cells goal ticked w v →
+        Turn A value n cells goal before first shorter w (v + 1) (set ticked v true) (set next v w) (set queue count v) (count + 1)
+    scan-joins before first shorter w i tight wider scanned =
+        let b = fits _ (growing .long-ticked) .1 in
+        (
+          growing-more w (wider .ticks w i) tight,
+          wider-more before ticked first count shorter queue v b wider,
+          below-more _ v (λ k l h. still-ticked ticked v k b (scanned k l h)) (λ _. getD-set-same ticked v true false b),
+        )
+
+  -- one turn of a scan, where v joins and where it does not
+  module _ (before : List Bool) (first : ℕ) (shorter : List ℕ) (w v : ℕ) (ticked : List Bool) (next queue : List ℕ) (count : ℕ)
+      (turn : Turn A value n cells goal before first shorter w v ticked next queue count)
+      (ticked′ : List Bool) (next′ queue′ : List ℕ) (count′ : ℕ) where
+    pub turn-joins : v < n → getD ticked v false ≡ false → getD before w false ≡ true → TightIn A value n cells goal v w →
+        ticked′ ≡ set ticked v true → next′ ≡ set next v w → queue′ ≡ set queue count v → count′ ≡ count + 1 →
+        Turn A value n cells goal before first shorter w (v + 1) ticked′ next′ queue′ count′
+    turn-joins l free i tight p q r s = rw (p, q, r, s) (scan-joins ticked next queue count (turn .0) v l free before first shorter w i tight (turn .1) (turn .2))
+
+    pub turn-passes : (TightIn A value n cells goal v w → getD ticked v false ≡ true) → ticked′ ≡ ticked → next′ ≡ next → queue′ ≡ queue → count′ ≡ count →
+        Turn A value n cells goal before first shorter w (v + 1) ticked′ next′ queue′ count′
+    turn-passes h p q r s = rw (p, q, r, s) (turn .0, turn .1, below-more _ v (turn .2) h)
 
   -- with the whole queue scanned, no tight card leads into the tree from outside
   pub growing-full : (ticked : List Bool) (next queue : List ℕ) (count : ℕ) → Growing A value n cells goal ticked next queue count →

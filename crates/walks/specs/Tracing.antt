@@ -86,6 +86,9 @@ module _ (A : Algebra) {C : Type 0} (value : C → A .Value) (n : ℕ) (cells : 
     pub grown : Grown A (cards-in A value n cells) to-goal goal ticked next
     pub rooted : getD ticked goal false ≡ true
     pub lined : Lined n ticked queue count
+    pub long-ticked : length ticked ≡ most-formats
+    pub long-next : length next ≡ most-formats
+    pub long-queue : length queue ≡ most-formats
 
   -- the tree is grown: no tight card leads into it from outside
   pub record Full (ticked : List Bool) (next : List ℕ) : Type 0 where
