@@ -4,16 +4,17 @@ use mathlib.Core.Path.{_≡_, refl, sym, ap, _∙_, subst}
 use mathlib.Core.Bool.{Bool, true, false}
 use mathlib.Core.List.{List, [], _∷_, _++_}
 use mathlib.Core.Logic.{_⊎_, inl, inr}
-use Prim.Native.Nat.{ℕ, _+_, _≤_, _<_}
+use Prim.Native.Nat.{ℕ, zero, suc, _+_, _≤_, _<_}
+use native.Mathlib.Nat.{le-of-suc-le-suc}
 use native.Mathlib.Omega.{arith}
 use lib.ListN.{length, getD, set, take, replicate}
 use borrow.Author.Count.{below-more}
 use Rattle.std.specs.Options.{Cases}
 use Rattle.std.specs.declared.option.Option.the-variants.{Some, None}
-use Rattle.std.proofs.shelf.Lists.{getD-set-same, getD-set-other, take-more-set, length-take-le, length-set}
+use Rattle.std.proofs.shelf.Lists.{getD-set-same, getD-set-other, take-more-set, length-take-le, length-set, getD-take}
 use Rattle.std.proofs.shelf.Tests.{cases-eq, cases-bool, both-ways}
 use Rattle.costs.specs.Algebra.{Algebra, Lawful}
-use Rattle.walks.specs.Walk.{path, Chain, WalkCosts, cost}
+use Rattle.walks.specs.Walk.{path, Below, Chain, WalkCosts, cost}
 use Rattle.walks.specs.Cells.{cards-in, least-in}
 use Rattle.walks.specs.Tracing.{Clear, Follows, Ticked, Lined, Wider, to-goal, Ready, TightIn, Scanned, Growing, Full, Traced, most-formats}
 use Rattle.walks.specs.declared.cells.Cell.{Cell}
@@ -25,6 +26,16 @@ use Rattle.walks.proofs.Tights.{to-goal-goal, to-goal-inside, to-goal-least}
 ticked-push : (ticked : List Bool) (fs : List ℕ) (v : ℕ) → Ticked ticked fs → getD ticked v false ≡ true → Ticked ticked (fs ++ v ∷ [])
 ticked-push ticked [] v k e = (e, tt)
 ticked-push ticked (f ∷ fs) v k e = (k .0, ticked-push ticked fs v (k .1) e)
+
+below-at : (h : ℕ) (fs : List ℕ) (k : ℕ) → k < length fs → Below h fs → getD fs k 0 < h
+below-at h [] k l b = absurd (omega arith)
+below-at h (f ∷ fs) zero l b = b .0
+below-at h (f ∷ fs) (suc k) l b = below-at h fs k (le-of-suc-le-suc l) (b .1)
+
+ticked-at : (ticked : List Bool) (fs : List ℕ) (k : ℕ) → k < length fs → Ticked ticked fs → getD ticked (getD fs k 0) false ≡ true
+ticked-at ticked [] k l b = absurd (omega arith)
+ticked-at ticked (f ∷ fs) zero l b = b .0
+ticked-at ticked (f ∷ fs) (suc k) l b = ticked-at ticked fs k (le-of-suc-le-suc l) (b .1)
 
 module _ (n : ℕ) (ticked : List Bool) (queue : List ℕ) (count : ℕ) (lined : Lined n ticked queue count) (v : ℕ) (l : v < n) (free : getD ticked v false ≡ false) where
   -- who is not in the tree has a place left in the queue
@@ -136,6 +147,23 @@ module _ {A : Algebra} (L : Lawful A) {C : Type 0} (value : C → A .Value) (n :
     pub turn-passes : (TightIn A value n cells goal v w → getD ticked v false ≡ true) → ticked′ ≡ ticked → next′ ≡ next → queue′ ≡ queue → count′ ≡ count →
         Turn A value n cells goal before first shorter w (v + 1) ticked′ next′ queue′ count′
     turn-passes h p q r s = rw (p, q, r, s) (turn .0, turn .1, below-more _ v (turn .2) h)
+
+  -- who stands in the queue is in the tree
+  pub growing-at : (ticked : List Bool) (next queue : List ℕ) (count : ℕ) → Growing A value n cells goal ticked next queue count → (k : ℕ) → k < count →
+      (getD queue k 0 < n) × (getD ticked (getD queue k 0) false ≡ true)
+  growing-at ticked next queue count g k l =
+      let b : k < length (take count queue) = rw (length-take-le count queue (omega (arith, g .lined .short, ready .few, g .long-queue))) l in
+      let e = getD-take count queue k 0 l in
+      (rw e at (below-at n (take count queue) k b (g .lined .below)), rw e at (ticked-at ticked (take count queue) k b (g .lined .inside)))
+
+  -- one more of the queue is scanned
+  pub queue-more : (ticked ticked′ : List Bool) (count count′ : ℕ) (queue queue′ : List ℕ) (at : ℕ) → at < count → Wider ticked ticked′ count count′ queue queue′ →
+      ((k : ℕ) → k < at → Scanned A value n cells goal ticked (getD queue k 0) n) → Scanned A value n cells goal ticked′ (getD queue at 0) n →
+      (k : ℕ) → k < at + 1 → Scanned A value n cells goal ticked′ (getD queue′ k 0) n
+  queue-more ticked ticked′ count count′ queue queue′ at l wider done here =
+      below-more (λ k. Scanned A value n cells goal ticked′ (getD queue′ k 0) n) at
+        (λ k b v c h. wider .ticks v (done k b v c (subst (TightIn A value n cells goal v) (wider .front k (omega arith)) h)))
+        (λ v c h. here v c (subst (TightIn A value n cells goal v) (wider .front at l) h))
 
   -- with the whole queue scanned, no tight card leads into the tree from outside
   pub growing-full : (ticked : List Bool) (next queue : List ℕ) (count : ℕ) → Growing A value n cells goal ticked next queue count →

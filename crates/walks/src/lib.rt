@@ -8,3 +8,5 @@ ghost use Rattle.walks.specs.Cells.{Laid};
 pub use cells::Cell;
 pub use pricing::Unpriced;
 pub use pricing::price;
+pub use trail::MOST_FORMATS;
+pub use trail::trace;

@@ -6,7 +6,8 @@ ghost use denote.Ref.{name};
 ghost use lib.ListN.{length, getD, set};
 ghost use Rattle.std.specs.Options.{mapped};
 ghost use Rattle.std.specs.Orderings.{Decides};
-ghost use Rattle.walks.specs.Cells.{cell};
+ghost use Rattle.walks.specs.Cells.{Laid, cards-in, cell, least-in};
+ghost use Rattle.walks.specs.Walk.{Gains, Least};
 ghost use Rattle.walks.specs.Tracing.{Clear, Full, Growing, Ready, Scanned, TightIn, Traced, Wider, to-goal};
 use crate::cells::Cell;
 use costs::Cost;
@@ -125,4 +126,39 @@ fn scan<C: Cost>(cells: &[Cell<C>], n: usize, goal: usize, to: usize, ticks: &mu
         }
     }
     count
+}
+
+// Grows the tree of tight cards backwards from the goal, breadth first: each format that joins is scanned once.
+fn grow<C: Cost>(cells: &[Cell<C>], n: usize, goal: usize, ticks: &mut Ticks, next: &mut [usize; MOST_FORMATS])
+    requires ready { ⌜ Ready (C·Cost .algebra) (C·Cost .value) n (now cells) goal ⌝ }
+    requires clear { ⌜ Clear (now (now ticks .sheet)) ⌝ }
+    requires long { ⌜ length (now (now ticks .sheet)) ≡ 64 ⌝ }
+    ensures full { λ _. ⌜ Full (C·Cost .algebra) (C·Cost .value) n (now (cells .entry)) goal (now (now (ticks .exit) .sheet)) (now (next .exit)) ⌝ }
+    ensures same { λ _. ⌜ name (now (ticks .exit) .sheet) ≡ name (now (ticks .entry) .sheet) ⌝ }
+{
+    ticks.tick(goal);
+    let mut queue = [goal; MOST_FORMATS];
+    let mut count = 1;
+    let mut at = 0;
+    while at < count {
+        let to = queue[at];
+        count = scan(cells, n, goal, to, ticks, next, &mut queue, count);
+        at += 1;
+    }
+}
+
+// Writes into `next` where to go on from each format along a chain of least cost to the goal. The sheet is for its own use,
+// and is clear again at the end.
+pub fn trace<C: Cost>(cells: &[Cell<C>], n: usize, goal: usize, sheet: &mut [bool; MOST_FORMATS], next: &mut [usize; MOST_FORMATS])
+    requires laid { ⌜ Laid (C·Cost .algebra) (C·Cost .value) n (now cells) ⌝ }
+    requires few { ⌜ n ≤ 64 ⌝ }
+    requires inside { ⌜ goal < n ⌝ }
+    requires calm { ⌜ (Gains (C·Cost .algebra) (cards-in (C·Cost .algebra) (C·Cost .value) n (now cells)) → ⊥) ⌝ }
+    requires least { ⌜ ((v : ℕ) → v < n → (v ≡ goal → ⊥) → Least (C·Cost .algebra) (cards-in (C·Cost .algebra) (C·Cost .value) n (now cells)) v goal (least-in (C·Cost .algebra) (C·Cost .value) n (now cells) v goal)) ⌝ }
+    requires clear { ⌜ Clear (now sheet) ⌝ }
+    ensures clear { λ _. ⌜ Clear (now (sheet .exit)) ⌝ }
+    ensures traced { λ _. ⌜ ((v : ℕ) → v < n → (v ≡ goal → ⊥) → Traced (C·Cost .algebra) (C·Cost .value) n (now (cells .entry)) goal (now (next .exit)) v) ⌝ }
+{
+    let mut ticks = Ticks { sheet };
+    grow(cells, n, goal, &mut ticks, next);
 }
