@@ -27,7 +27,7 @@ ticked-push : (ticked : List Bool) (fs : List ℕ) (v : ℕ) → Ticked ticked f
 ticked-push ticked [] v k e = (e, tt)
 ticked-push ticked (f ∷ fs) v k e = (k .0, ticked-push ticked fs v (k .1) e)
 
-below-at : (h : ℕ) (fs : List ℕ) (k : ℕ) → k < length fs → Below h fs → getD fs k 0 < h
+pub below-at : (h : ℕ) (fs : List ℕ) (k : ℕ) → k < length fs → Below h fs → getD fs k 0 < h
 below-at h [] k l b = absurd (omega arith)
 below-at h (f ∷ fs) zero l b = b .0
 below-at h (f ∷ fs) (suc k) l b = below-at h fs k (le-of-suc-le-suc l) (b .1)

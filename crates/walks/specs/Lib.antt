@@ -3,3 +3,4 @@ pub mod Theorems
 pub mod Price
 pub mod Cells
 pub mod Tracing
+pub mod Sheet
