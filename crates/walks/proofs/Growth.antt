@@ -1,6 +1,6 @@
 -- The tree of tight cards grows format by format, with a queue of those that joined.
 -- When each of the queue was scanned, the table of next formats leads along chains of least cost.
-use mathlib.Core.Path.{_≡_, refl, sym, ap, _∙_, subst}
+use mathlib.Core.Path.{_≡_, refl, sym, _∙_, subst}
 use mathlib.Core.Bool.{Bool, true, false}
 use mathlib.Core.List.{List, [], _∷_, _++_}
 use mathlib.Core.Logic.{_⊎_, inl, inr}
@@ -9,14 +9,13 @@ use native.Mathlib.Nat.{le-of-suc-le-suc}
 use native.Mathlib.Omega.{arith}
 use lib.ListN.{length, getD, set, take, replicate}
 use borrow.Author.Count.{below-more}
-use Rattle.std.specs.Options.{Cases}
 use Rattle.std.specs.declared.option.Option.the-variants.{Some, None}
 use Rattle.std.proofs.shelf.Lists.{getD-set-same, getD-set-other, take-more-set, length-take-le, length-set, getD-take}
 use Rattle.std.proofs.shelf.Tests.{cases-eq, cases-bool, both-ways}
 use Rattle.costs.specs.Algebra.{Algebra, Lawful}
-use Rattle.walks.specs.Walk.{path, Below, Chain, WalkCosts, cost}
+use Rattle.walks.specs.Walk.{path, Below, cost}
 use Rattle.walks.specs.Cells.{cards-in, least-in}
-use Rattle.walks.specs.Tracing.{Clear, Follows, Ticked, Lined, Wider, to-goal, Ready, TightIn, Scanned, Growing, Full, Traced, most-formats}
+use Rattle.walks.specs.Tracing.{Clear, Ticked, Lined, Wider, to-goal, Ready, TightIn, Scanned, Growing, Full, Traced, most-formats}
 use Rattle.walks.specs.declared.cells.Cell.{Cell}
 use Rattle.walks.proofs.Fold.{below-join}
 use Rattle.walks.proofs.Cut.{distinct-few, distinct-end}
@@ -62,9 +61,6 @@ module _ (n : ℕ) (ticked : List Bool) (queue : List ℕ) (count : ℕ) (lined 
       at x k (inr ne) =
           let (j, b, e) = lined .all x (sym (getD-set-other ticked v x true false ne) ∙ k) in
           (j, omega arith, getD-set-other queue count j v 0 (omega arith) ∙ e)
-
-pub wider-none : (ticked : List Bool) (queue : List ℕ) (count : ℕ) → Wider ticked ticked count count queue queue
-wider-none ticked queue count = record { rises = omega arith; ticks = λ v e. e; front = λ k b. refl }
 
 still-ticked : (ticked : List Bool) (v x : ℕ) → v < length ticked → getD ticked x false ≡ true → getD (set ticked v true) x false ≡ true
 still-ticked ticked v x l e = go (cases-eq x v)
@@ -128,8 +124,7 @@ module _ {A : Algebra} (L : Lawful A) {C : Type 0} (value : C → A .Value) (n :
         Wider before ticked first count shorter queue → Scanned A value n cells goal ticked w v →
         Turn A value n cells goal before first shorter w (v + 1) (set ticked v true) (set next v w) (set queue count v) (count + 1)
     scan-joins before first shorter w i tight wider scanned =
-        let b = fits _ (growing .long-ticked) .1 in
-        (
+        let b = fits _ (growing .long-ticked) .1 in (
           growing-more w (wider .ticks w i) tight,
           wider-more before ticked first count shorter queue v b wider,
           below-more _ v (λ k l h. still-ticked ticked v k b (scanned k l h)) (λ _. getD-set-same ticked v true false b),
@@ -162,8 +157,8 @@ module _ {A : Algebra} (L : Lawful A) {C : Type 0} (value : C → A .Value) (n :
       (k : ℕ) → k < at + 1 → Scanned A value n cells goal ticked′ (getD queue′ k 0) n
   queue-more ticked ticked′ count count′ queue queue′ at l wider done here =
       below-more (λ k. Scanned A value n cells goal ticked′ (getD queue′ k 0) n) at
-        (λ k b v c h. wider .ticks v (done k b v c (subst (TightIn A value n cells goal v) (wider .front k (omega arith)) h)))
-        (λ v c h. here v c (subst (TightIn A value n cells goal v) (wider .front at l) h))
+      (λ k b v c h. wider .ticks v (done k b v c (subst (TightIn A value n cells goal v) (wider .front k (omega arith)) h)))
+      (λ v c h. here v c (subst (TightIn A value n cells goal v) (wider .front at l) h))
 
   -- with the whole queue scanned, no tight card leads into the tree from outside
   pub growing-full : (ticked : List Bool) (next queue : List ℕ) (count : ℕ) → Growing A value n cells goal ticked next queue count →
@@ -181,6 +176,7 @@ module _ {A : Algebra} (L : Lawful A) {C : Type 0} (value : C → A .Value) (n :
     where
       none : least-in A value n cells v goal ≡ None → Traced A value n cells goal next v
       none e = rw e (rw e at (ready .least v l ne))
+
       go : (getD ticked v false ≡ true) ⊎ (getD ticked v false ≡ false) → Traced A value n cells goal next v
       go (inl i) =
           let led = full .grown v i in
@@ -189,4 +185,4 @@ module _ {A : Algebra} (L : Lawful A) {C : Type 0} (value : C → A .Value) (n :
           rw d (ms, chain, refl, rw e at (led .follows))
       go (inr f) = none (sym (to-goal-inside L value n cells goal v l ne) ∙
           ended-none L n (cards-in A value n cells) (ready .laid .sound) (ready .calm) goal (to-goal A value n cells goal) (to-goal-goal L value n cells goal)
-            (to-goal-least L value n cells goal ready) ticked (full .rooted) (full .ended) v f)
+          (to-goal-least L value n cells goal ready) ticked (full .rooted) (full .ended) v f)

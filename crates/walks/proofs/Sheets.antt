@@ -1,19 +1,26 @@
 -- Rows of a sheet: a chain is followed and written byte by byte, and a written row leaves all other bytes as they were.
-use mathlib.Core.Path.{_≡_, refl, sym, ap, _∙_, subst}
+use mathlib.Core.Path.{_≡_, refl, sym, ap, _∙_}
 use mathlib.Core.List.{List, [], _∷_, _++_}
 use mathlib.Core.Logic.{_⊎_, inl, inr}
-use Prim.Native.Nat.{ℕ, zero, suc, _+_, _-_, _*_, _≤_, _<_}
+use Prim.Native.Nat.{ℕ, _+_, _-_, _*_, min, _≤_, _<_}
 use native.Mathlib.Omega.{arith}
 use lib.ListN.{length, getD, set, take, drop, replicate}
 use lib.Seq.{paste}
-use Rattle.std.proofs.shelf.Lists.{append-assoc, length-append, length-drop, length-replicate, length-take-le, length-push, nil-from-length, drop-more, take-more, set-at, take-at, drop-at, drop-drop, take-append-le, drop-append-le, getD-append-left, getD-append-right, getD-take, getD-drop}
+use Rattle.std.proofs.shelf.Lists.{append-assoc, length-append, length-drop, length-replicate, length-take, length-take-le, drop-more, take-more, set-at, take-at, drop-at, getD-append-left, getD-append-right, getD-take, getD-drop, ext-getD}
 use Rattle.std.proofs.shelf.Edits.{paste-none, paste-more, paste-all, paste-paste}
-use Rattle.std.proofs.shelf.Tests.{cases-order}
-use Rattle.walks.specs.Walk.{Below}
+use Rattle.std.proofs.shelf.Tests.{cases-lt}
+use Rattle.std.specs.declared.option.Option.{Option}
+use Rattle.costs.specs.Algebra.{Algebra, Lawful}
+use Rattle.walks.specs.Walk.{path, Below, Chain}
+use Rattle.walks.specs.Theorems.{Sound}
 use Rattle.walks.specs.Tracing.{Follows, most-formats}
 use Rattle.walks.specs.Sheet.{most-in-row, row-of, row-at, put-row, Leads}
 use Rattle.walks.proofs.Follow.{follows-head, follows-same}
 use Rattle.walks.proofs.Growth.{below-at}
+use Rattle.walks.proofs.Runs.{to-runs}
+use Rattle.walks.proofs.Fold.{below-join, below-mono}
+use Rattle.walks.proofs.Loops.{runs-inside}
+use Rattle.walks.proofs.Cut.{distinct-few}
 
 -- the chain from `from` is followed as far as `here`, and its first i formats stand in the sheet from `at` on
 pub record Reading (next : List ℕ) (goal from : ℕ) (old : List ℕ) (at here i : ℕ) (sheet : List ℕ) : Type 0 where
@@ -81,16 +88,16 @@ module _ (next : List ℕ) (goal : ℕ) where
 -- the formats, what stands behind them and their number make a row
 framed : (old : List ℕ) (at : ℕ) (fs : List ℕ) → at + 66 ≤ length old → length fs ≤ most-in-row →
     set (paste (paste old (at + 1) fs (length fs)) (at + 1 + length fs) (replicate (most-in-row - length fs) 255) (most-in-row - length fs)) at (length fs) ≡
-      take at old ++ (row-of fs ++ drop (at + 66) old)
+    take at old ++ (row-of fs ++ drop (at + 66) old)
 framed old at fs room few =
     let rest : List ℕ = replicate (most-in-row - length fs) 255 in
     let long : most-in-row ≡ length (fs ++ rest) = omega (arith, length-append fs rest, length-replicate {A = ℕ} (most-in-row - length fs) 255) in
     let sum : length fs + (most-in-row - length fs) ≡ most-in-row = omega arith in
     let past : at + 1 + most-in-row ≡ at + 66 = omega arith in
     let both : paste (paste old (at + 1) fs (length fs)) (at + 1 + length fs) rest (most-in-row - length fs) ≡ paste old (at + 1) (fs ++ rest) most-in-row =
-      paste-paste old (at + 1) fs rest (length fs) (most-in-row - length fs) refl (sym (length-replicate {A = ℕ} (most-in-row - length fs) 255)) (omega arith) ∙ ap (paste old (at + 1) (fs ++ rest)) sum in
+    paste-paste old (at + 1) fs rest (length fs) (most-in-row - length fs) refl (sym (length-replicate {A = ℕ} (most-in-row - length fs) 255)) (omega arith) ∙ ap (paste old (at + 1) (fs ++ rest)) sum in
     let whole : paste old (at + 1) (fs ++ rest) most-in-row ≡ take at old ++ (getD old at 0 ∷ ((fs ++ rest) ++ drop (at + 66) old)) =
-      paste-all old (at + 1) (fs ++ rest) most-in-row long ∙ rw (take-more old at 0 (omega arith), past) (append-assoc (take at old) (getD old at 0 ∷ []) _) in
+    paste-all old (at + 1) (fs ++ rest) most-in-row long ∙ rw (take-more old at 0 (omega arith), past) (append-assoc (take at old) (getD old at 0 ∷ []) _) in
     ap (λ s. set s at (length fs)) (both ∙ whole) ∙ set-at (take at old) (getD old at 0) _ (length fs) at (length-take-le at old (omega arith))
 
 pub row-written : (old mid new : List ℕ) (at count : ℕ) (fs : List ℕ) → at + 66 ≤ length old → length fs ≤ most-in-row → count ≡ length fs →
@@ -105,6 +112,9 @@ pub length-row-of : (fs : List ℕ) → length fs ≤ most-in-row → length (ro
 length-row-of fs few =
     let rest : List ℕ = replicate (most-in-row - length fs) 255 in
     omega (arith, length-append fs rest, length-replicate {A = ℕ} (most-in-row - length fs) 255)
+
+pub getD-row-at : (sheet : List ℕ) (k i : ℕ) → i < 66 → getD (row-at sheet k) i 0 ≡ getD sheet (66 * k + i) 0
+getD-row-at sheet k i l = getD-take 66 (drop (66 * k) sheet) i 0 l ∙ getD-drop (66 * k) sheet i 0
 
 -- what a row that is put leaves
 module _ (sheet : List ℕ) (k : ℕ) (row : List ℕ) (room : 66 * k + 66 ≤ length sheet) (long : length row ≡ 66) where
@@ -123,5 +133,36 @@ module _ (sheet : List ℕ) (k : ℕ) (row : List ℕ) (room : 66 * k + 66 ≤ l
   pub getD-put-row-above : (i : ℕ) → 66 * k + 66 ≤ i → getD (put-row sheet k row) i 0 ≡ getD sheet i 0
   getD-put-row-above i l =
       getD-append-right (take (66 * k) sheet) (row ++ drop (66 * k + 66) sheet) (66 * k) i 0 front (omega arith) ∙
-        getD-append-right row (drop (66 * k + 66) sheet) 66 (i - 66 * k) 0 long (omega arith) ∙ getD-drop (66 * k + 66) sheet (i - 66 * k - 66) 0 ∙
-        ap (λ j. getD sheet j 0) (omega arith)
+      getD-append-right row (drop (66 * k + 66) sheet) 66 (i - 66 * k) 0 long (omega arith) ∙ getD-drop (66 * k + 66) sheet (i - 66 * k - 66) 0 ∙
+      ap (λ j. getD sheet j 0) (omega arith)
+
+  pub getD-put-row : (i : ℕ) → i < 66 → getD (put-row sheet k row) (66 * k + i) 0 ≡ getD row i 0
+  getD-put-row i l = sym (getD-row-at (put-row sheet k row) k i l) ∙ ap (λ r. getD r i 0) row-at-put-row
+
+  pub row-at-put-row-other : (j : ℕ) → (j ≡ k → ⊥) → row-at (put-row sheet k row) j ≡ row-at sheet j
+  row-at-put-row-other j ne = ext-getD 0 (row-at (put-row sheet k row) j) (row-at sheet j) (size (put-row sheet k row) ∙ ap (λ n. min 66 (n - 66 * j)) length-put-row ∙ sym (size sheet)) same
+    where
+      size : (s : List ℕ) → length (row-at s j) ≡ min 66 (length s - 66 * j)
+      size s = length-take 66 (drop (66 * j) s) ∙ ap (min 66) (length-drop (66 * j) s)
+
+      at : (i : ℕ) → i < 66 → (j < k) ⊎ (k ≤ j) → getD (put-row sheet k row) (66 * j + i) 0 ≡ getD sheet (66 * j + i) 0
+      at i l (inl m) = getD-put-row-below (66 * j + i) (omega arith)
+      at i l (inr m) = getD-put-row-above (66 * j + i) (omega (arith, ne))
+
+      same : (i : ℕ) → i < length (row-at (put-row sheet k row) j) → getD (row-at (put-row sheet k row) j) i 0 ≡ getD (row-at sheet j) i 0
+      same i l =
+          let b : i < 66 = omega (arith, size (put-row sheet k row)) in
+          getD-row-at (put-row sheet k row) j i b ∙ at i b (cases-lt j k) ∙ sym (getD-row-at sheet j i b)
+
+-- the chain that a row has is read back
+pub chain-of-row : (fs : List ℕ) → take (length fs) (drop 1 (row-of fs)) ≡ fs
+chain-of-row fs = take-at fs (replicate (most-in-row - length fs) 255) (length fs) refl
+
+-- a chain over the cards of a table can be written into a row
+pub chain-leads : {A : Algebra} → Lawful A → (n : ℕ) (card : ℕ → ℕ → Option (A .Value)) → Sound A n card → n ≤ most-formats → (next : List ℕ) (goal from : ℕ) (ms : List ℕ) →
+    Chain A card (path from ms goal) → Follows next goal from (path from ms goal) → Leads next goal from
+chain-leads L n card sound few next goal from ms (walk, distinct) follows =
+    let i = runs-inside L card n sound from ms goal _ (to-runs L card from ms goal walk) in
+    let below : Below n (path from ms goal) = (i .0, below-join n ms (goal ∷ []) (i .1) (i .2, tt)) in
+    let short = distinct-few n (path from ms goal) below distinct in
+    (path from ms goal, follows, below-mono n most-formats (path from ms goal) few below, omega arith)

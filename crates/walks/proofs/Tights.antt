@@ -1,7 +1,7 @@
 -- Tight cards of a table of least costs: the costs on the way to the goal are near, so a combination with a card is exact,
 -- and a test of equal meaning tells whether the card is tight.
 use mathlib.Core.Path.{_≡_, refl, sym, ap, _∙_, subst}
-use mathlib.Core.Bool.{Bool, true, false, not, _&&_, cond}
+use mathlib.Core.Bool.{Bool, true, false, not, _&&_}
 use mathlib.Core.Logic.{_⊎_, inl, inr}
 use Prim.Native.Nat.{ℕ, _+_, _-_, _≤_, _<_}
 use native.Mathlib.Omega.{arith}
@@ -9,12 +9,10 @@ use lib.Dec.{eqb, ltb}
 use mathlib.Core.List.{List}
 use Rattle.std.specs.Options.{mapped}
 use Rattle.std.specs.Orderings.{Decides}
-use Rattle.std.specs.declared.option.Option.{Option}
 use Rattle.std.specs.declared.option.Option.the-variants.{Some, None}
-use Rattle.std.proofs.shelf.Tests.{cases-eq, cases-lt, cases-bool, both-ways, eq-eqb, ne-eqb, lt-ltb, le-ltb, cond-true, cond-false, and-from}
+use Rattle.std.proofs.shelf.Tests.{cases-eq, cases-lt, both-ways, eq-eqb, ne-eqb, lt-ltb, le-ltb, cond-true, cond-false, and-from}
 use Rattle.costs.specs.Algebra.{Algebra, Lawful, reach}
-use Rattle.walks.specs.Walk.{LeastOf, WalkCosts, Least}
-use Rattle.walks.specs.Theorems.{Sound}
+use Rattle.walks.specs.Walk.{Least}
 use Rattle.walks.specs.Cells.{cell, cards-in, least-in}
 use Rattle.walks.specs.Tracing.{to-goal, Ready, TightIn}
 use Rattle.walks.specs.declared.cells.Cell.{Cell}

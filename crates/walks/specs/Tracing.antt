@@ -101,4 +101,4 @@ module _ (A : Algebra) {C : Type 0} (value : C → A .Value) (n : ℕ) (cells : 
   Traced next v =
       let card : ℕ → ℕ → Option (A .Value) = cards-in A value n cells in
       Cases (least-in A value n cells v goal) ((x : A .Value) → WalkCosts A card v goal x → ⊥)
-        (λ x. (ms : List ℕ) × Chain A card (path v ms goal) × (cost A card (path v ms goal) ≡ x) × Follows next goal v (path v ms goal))
+      (λ x. (ms : List ℕ) × Chain A card (path v ms goal) × (cost A card (path v ms goal) ≡ x) × Follows next goal v (path v ms goal))

@@ -18,7 +18,13 @@ const MOST_IN_ROW: usize = 65;
 const NO_FORMAT: u8 = 255;
 
 // Writes the formats met by following `next` from `from` to the goal, from `at` on. Answers how many they are.
-fn follow(next: &[usize; MOST_FORMATS], from: usize, goal: usize, sheet: &mut [u8], at: usize) -> usize
+fn follow(
+    next: &[usize; MOST_FORMATS],
+    from: usize,
+    goal: usize,
+    sheet: &mut [u8],
+    at: usize,
+) -> usize
     requires room { ⌜ at + 65 ≤ length (now sheet) ⌝ }
     requires leads { ⌜ Leads (now next) goal from ⌝ }
     ensures { λ r. ⌜ ((fs : List ℕ) → Follows (now (next .entry)) goal from fs → (r ≡ length fs) × (now (sheet .exit) ≡ paste (now (sheet .entry)) at fs (length fs))) ⌝ }
@@ -55,7 +61,13 @@ fn frame(sheet: &mut [u8], at: usize, count: usize)
 }
 
 // Writes into row `k` of the sheet the chain met by following `next` from `from` to the goal. Answers how many formats it has.
-pub fn write_chain(next: &[usize; MOST_FORMATS], from: usize, goal: usize, sheet: &mut [u8], k: usize) -> usize
+pub fn write_chain(
+    next: &[usize; MOST_FORMATS],
+    from: usize,
+    goal: usize,
+    sheet: &mut [u8],
+    k: usize,
+) -> usize
     requires room { ⌜ 66 * k + 66 ≤ length (now sheet) ⌝ }
     requires leads { ⌜ Leads (now next) goal from ⌝ }
     ensures written { λ r. ⌜ ((fs : List ℕ) → Follows (now (next .entry)) goal from fs → (r ≡ length fs) × (now (sheet .exit) ≡ put-row (now (sheet .entry)) k (row-of fs))) ⌝ }

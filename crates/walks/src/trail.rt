@@ -37,6 +37,7 @@ impl Ticks<'_> {
     }
 }
 
+// Whether the format has a tick on the sheet.
 fn ticked(sheet: &[bool; MOST_FORMATS], format: usize) -> bool
     requires { ⌜ format < 64 ⌝ }
     ensures { λ r. ⌜ r ≡ getD (now (sheet .entry)) format false ⌝ }
@@ -108,7 +109,16 @@ fn tight<C: Cost>(cells: &[Cell<C>], n: usize, goal: usize, from: usize, to: usi
 }
 
 // Each format with a tight card to `to`, which is in the tree, joins the tree and the queue. Answers how many are in the queue.
-fn scan<C: Cost>(cells: &[Cell<C>], n: usize, goal: usize, to: usize, ticks: &mut Ticks, next: &mut [usize; MOST_FORMATS], queue: &mut [usize; MOST_FORMATS], mut count: usize) -> usize
+fn scan<C: Cost>(
+    cells: &[Cell<C>],
+    n: usize,
+    goal: usize,
+    to: usize,
+    ticks: &mut Ticks,
+    next: &mut [usize; MOST_FORMATS],
+    queue: &mut [usize; MOST_FORMATS],
+    mut count: usize,
+) -> usize
     requires ready { ⌜ Ready (C·Cost .algebra) (C·Cost .value) n (now cells) goal ⌝ }
     requires inside { ⌜ to < n ⌝ ∗ ⌜ getD (now (now ticks .sheet)) to false ≡ true ⌝ }
     requires growing { ⌜ Growing (C·Cost .algebra) (C·Cost .value) n (now cells) goal (now (now ticks .sheet)) (now next) (now queue) count ⌝ }
@@ -129,7 +139,13 @@ fn scan<C: Cost>(cells: &[Cell<C>], n: usize, goal: usize, to: usize, ticks: &mu
 }
 
 // Grows the tree of tight cards backwards from the goal, breadth first: each format that joins is scanned once.
-fn grow<C: Cost>(cells: &[Cell<C>], n: usize, goal: usize, ticks: &mut Ticks, next: &mut [usize; MOST_FORMATS])
+fn grow<C: Cost>(
+    cells: &[Cell<C>],
+    n: usize,
+    goal: usize,
+    ticks: &mut Ticks,
+    next: &mut [usize; MOST_FORMATS],
+)
     requires ready { ⌜ Ready (C·Cost .algebra) (C·Cost .value) n (now cells) goal ⌝ }
     requires clear { ⌜ Clear (now (now ticks .sheet)) ⌝ }
     requires long { ⌜ length (now (now ticks .sheet)) ≡ 64 ⌝ }
@@ -149,7 +165,13 @@ fn grow<C: Cost>(cells: &[Cell<C>], n: usize, goal: usize, ticks: &mut Ticks, ne
 
 // Writes into `next` where to go on from each format along a chain of least cost to the goal. The sheet is for its own use,
 // and is clear again at the end.
-pub fn trace<C: Cost>(cells: &[Cell<C>], n: usize, goal: usize, sheet: &mut [bool; MOST_FORMATS], next: &mut [usize; MOST_FORMATS])
+pub fn trace<C: Cost>(
+    cells: &[Cell<C>],
+    n: usize,
+    goal: usize,
+    sheet: &mut [bool; MOST_FORMATS],
+    next: &mut [usize; MOST_FORMATS],
+)
     requires laid { ⌜ Laid (C·Cost .algebra) (C·Cost .value) n (now cells) ⌝ }
     requires few { ⌜ n ≤ 64 ⌝ }
     requires inside { ⌜ goal < n ⌝ }

@@ -8,6 +8,6 @@ returns g c =
     record {
       clear = search needs;
       traced =
-        full-traced (g .C·Cost·met .lawful) (g .C·Cost .value) _ _ _ (record { laid = pre .laid; few = pre .few; inside = pre .inside; calm = pre .calm; least = pre .least }) _ _
-        (c .grow .ensures .full);
+          full-traced (g .C·Cost·met .lawful) (g .C·Cost .value) _ _ _ (record { laid = pre .laid; few = pre .few; inside = pre .inside; calm = pre .calm; least = pre .least }) _ _
+          (c .grow .ensures .full);
     }
