@@ -52,7 +52,7 @@ absent-end : (f : ℕ) (ks : List ℕ) (t : ℕ) → Absent f ks → (f ≡ t �
 absent-end f [] t a d = (d, tt)
 absent-end f (k ∷ ks) t a d = (a .0, absent-end f ks t (a .1) d)
 
-distinct-end : (ks : List ℕ) (t : ℕ) → Distinct ks → Absent t ks → Distinct (ks ++ t ∷ [])
+pub distinct-end : (ks : List ℕ) (t : ℕ) → Distinct ks → Absent t ks → Distinct (ks ++ t ∷ [])
 distinct-end [] t d a = (tt, tt)
 distinct-end (k ∷ ks) t d a = (absent-end k ks t (d .0) (λ e. a .0 (sym e)), distinct-end ks t (d .1) (a .1))
 

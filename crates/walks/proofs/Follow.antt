@@ -15,14 +15,9 @@ use Rattle.std.proofs.shelf.Tests.{cases-lt, cases-eq, both-ways}
 use Rattle.costs.specs.Algebra.{Algebra, Lawful}
 use Rattle.walks.specs.Walk.{path, Below, Absent, Distinct, LeastOf, Walk, cost, Chain, WalkCosts, Least, Gains, Tight}
 use Rattle.walks.specs.Theorems.{Sound}
+use Rattle.walks.specs.Tracing.{Follows, Ticked, Led, Grown}
 use Rattle.walks.proofs.Cut.{distinct-few}
 use Rattle.walks.proofs.Tree.{tree-reaches}
-
--- the formats of the list are those met from v on by `next`, up to t
-abbrev pub Follows : List ℕ → ℕ → ℕ → List ℕ → Type 0
-Follows next t v [] = ⊥
-Follows next t v (f ∷ []) = (f ≡ v) × (v ≡ t)
-Follows next t v (f ∷ g ∷ fs) = (f ≡ v) × (v ≡ t → ⊥) × Follows next t (getD next v 0) (g ∷ fs)
 
 module _ (next : List ℕ) (t : ℕ) where
   pub follows-head : (v f : ℕ) (fs : List ℕ) → Follows next t v (f ∷ fs) → f ≡ v
@@ -69,11 +64,6 @@ module _ (next : List ℕ) (t : ℕ) where
       let (ms, e) = follows-path (getD next v 0) (g ∷ k ∷ fs) (h .2 .1) (h .2) in
       (getD next v 0 ∷ ms, ap (λ x. x ∷ g ∷ k ∷ fs) (h .0) ∙ ap (λ xs. v ∷ xs) e)
 
--- every format of the list is in the tree
-abbrev pub Ticked : List Bool → List ℕ → Type 0
-Ticked ticked [] = Unit {0}
-Ticked ticked (f ∷ fs) = (getD ticked f false ≡ true) × Ticked ticked fs
-
 pub ticked-below : (ticked : List Bool) (fs : List ℕ) → Ticked ticked fs → Below (length ticked) fs
 ticked-below ticked [] k = tt
 ticked-below ticked (f ∷ fs) k = (go (cases-lt f (length ticked)), ticked-below ticked fs (k .1))
@@ -92,7 +82,7 @@ module _ (ticked : List Bool) (v : ℕ) (free : getD ticked v false ≡ false) w
   other : (x : ℕ) → getD ticked x false ≡ true → x ≡ v → ⊥
   other x k e = both-ways (getD ticked v false) free (rw e at k)
 
-  absent-free : (fs : List ℕ) → Ticked ticked fs → Absent v fs
+  pub absent-free : (fs : List ℕ) → Ticked ticked fs → Absent v fs
   absent-free [] k = tt
   absent-free (f ∷ fs) k = (λ e. other f (k .0) (sym e), absent-free fs (k .1))
 
@@ -111,19 +101,6 @@ ticked-end : (ticked : List Bool) (next : List ℕ) (t v : ℕ) (fs : List ℕ) 
 ticked-end ticked next t v [] h k = absurd h
 ticked-end ticked next t v (f ∷ []) h k = rw (h .0 ∙ h .1) at (k .0)
 ticked-end ticked next t v (f ∷ g ∷ fs) h k = ticked-end ticked next t (getD next v 0) (g ∷ fs) (h .2) (k .1)
-
--- `next` leads from v along a chain inside the tree to t, at the least cost
-pub record Led (A : Algebra) (card : ℕ → ℕ → Option (A .Value)) (d : ℕ → Option (A .Value)) (t : ℕ) (ticked : List Bool) (next : List ℕ) (v : ℕ) : Type 0 where
-  pub formats : List ℕ
-  pub follows : Follows next t v formats
-  pub distinct : Distinct formats
-  pub inside : Ticked ticked formats
-  pub walks : (v ≡ t → ⊥) → Walk A card formats
-  pub costs : d v ≡ Some (cost A card formats)
-
--- what holds of the tree while it grows
-abbrev pub Grown : (A : Algebra) → (ℕ → ℕ → Option (A .Value)) → (ℕ → Option (A .Value)) → ℕ → List Bool → List ℕ → Type 0
-Grown A card d t ticked next = (v : ℕ) → getD ticked v false ≡ true → Led A card d t ticked next v
 
 module _ (A : Algebra) (card : ℕ → ℕ → Option (A .Value)) (d : ℕ → Option (A .Value)) (t : ℕ) (ticked : List Bool) (next : List ℕ) where
   -- the tree begins with t alone

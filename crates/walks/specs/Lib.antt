@@ -2,3 +2,5 @@ pub mod Walk
 pub mod Theorems
 pub mod Price
 pub mod Cells
+pub mod Tracing
+pub mod Sheet

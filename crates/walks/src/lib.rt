@@ -1,9 +1,16 @@
 // Walks over the cards of a register: what they cost, and which cost least.
 mod cells;
 mod pricing;
+mod rows;
+mod trail;
 
 ghost use Rattle.walks.specs.Cells.{Laid};
 
 pub use cells::Cell;
 pub use pricing::Unpriced;
 pub use pricing::price;
+pub use rows::ROW;
+pub use rows::write_chain;
+pub use rows::write_no_chain;
+pub use trail::MOST_FORMATS;
+pub use trail::trace;
