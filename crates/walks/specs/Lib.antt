@@ -2,3 +2,4 @@ pub mod Walk
 pub mod Theorems
 pub mod Price
 pub mod Cells
+pub mod Eliminated
