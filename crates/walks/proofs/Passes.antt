@@ -14,13 +14,14 @@ use Rattle.std.specs.declared.option.Option.{Option}
 use Rattle.std.specs.declared.option.Option.the-variants.{Some, None}
 use Rattle.std.proofs.shelf.Lists.{length-set, getD-set-same, getD-set-other}
 use Rattle.std.proofs.shelf.Bits.{mul-add-lt, div-mul-add, mod-mul-add}
-use Rattle.std.proofs.shelf.Tests.{cases-eq}
-use Rattle.costs.specs.Algebra.{Algebra, reach}
+use Rattle.std.proofs.shelf.Tests.{cases-eq, cases-lt}
+use Rattle.costs.specs.Algebra.{Algebra, Lawful, reach}
 use Rattle.walks.specs.Walk.{LeastOf}
-use Rattle.walks.specs.Theorems.{Sound, Either}
+use Rattle.walks.specs.Theorems.{Sound, Either, Joined}
 use Rattle.walks.specs.Cells.{empty, cell, Kept, Laid, cards-in, least-in}
-use Rattle.walks.specs.Eliminated.{Block, Near, Ready, Improved}
+use Rattle.walks.specs.Eliminated.{Block, Cross, Near, Ready, Improved}
 use Rattle.walks.specs.declared.cells.Cell.{Cell}
+use Rattle.walks.proofs.Least.{none-joined, joined-is}
 
 -- addresses
 pub place-lt : (n s t : ℕ) → s < n → t < n → s * n + t < n * n
@@ -138,3 +139,74 @@ module _ (A : Algebra) {C : Type 0} (value : C → A .Value) (n : ℕ) where
       λ x e. r .near s ls ne .1 x (sym (i .missed k s (r .inside) ls (away s .1)) ∙ e),
     );
   }
+
+  -- a block and the next, to the right or below, where the pivot lies in none of the rows and columns
+  pub block-right : (k r r′ c m c′ : ℕ) (first second third : List (Cell C)) → k < n → c ≤ m → m ≤ c′ → (r ≤ k → k < r′ → ⊥) → (c ≤ k → k < m → ⊥) →
+      Improved A value n k (Block r r′ c m) first second → Improved A value n k (Block r r′ m c′) second third → Improved A value n k (Block r r′ c c′) first third
+  block-right k r r′ c m c′ first second third lk lm lm′ rows columns =
+      improved-then k (Block r r′ c m) (Block r r′ m c′) (Block r r′ c c′) first second third lk (λ s t h. split s t h (cases-lt t m))
+        (λ s t h. (h .0, h .1, h .2, omega arith, h .4)) (λ s t h. (h .0, h .1, omega arith, h .3, h .4))
+        (λ s t h. (λ g. absurd (omega arith), λ g. columns (g .2) (g .3), λ g. rows (g .0) (g .1)))
+    where
+      split : (s t : ℕ) → Block r r′ c c′ s t → (t < m) ⊎ (m ≤ t) → Block r r′ c m s t ⊎ Block r r′ m c′ s t
+      split s t h (inl l) = inl (h .0, h .1, h .2, l, h .4)
+      split s t h (inr l) = inr (h .0, h .1, l, h .3, h .4)
+
+  pub block-down : (k r m r′ c c′ : ℕ) (first second third : List (Cell C)) → k < n → r ≤ m → m ≤ r′ → (r ≤ k → k < m → ⊥) → (c ≤ k → k < c′ → ⊥) →
+      Improved A value n k (Block r m c c′) first second → Improved A value n k (Block m r′ c c′) second third → Improved A value n k (Block r r′ c c′) first third
+  block-down k r m r′ c c′ first second third lk lm lm′ rows columns =
+      improved-then k (Block r m c c′) (Block m r′ c c′) (Block r r′ c c′) first second third lk (λ s t h. split s t h (cases-lt s m))
+        (λ s t h. (h .0, omega arith, h .2, h .3, h .4)) (λ s t h. (omega arith, h .1, h .2, h .3, h .4))
+        (λ s t h. (λ g. absurd (omega arith), λ g. columns (g .2) (g .3), λ g. rows (g .0) (g .1)))
+    where
+      split : (s t : ℕ) → Block r r′ c c′ s t → (s < m) ⊎ (m ≤ s) → Block r m c c′ s t ⊎ Block m r′ c c′ s t
+      split s t h (inl l) = inl (h .0, l, h .2, h .3, h .4)
+      split s t h (inr l) = inr (l, h .1, h .2, h .3, h .4)
+
+  -- a cross and its next two cells, where the pivot is another format
+  pub cross-more : (k t low s : ℕ) (first second third fourth : List (Cell C)) → k < n → t < k → k < low → low ≤ s →
+      Improved A value n k (Cross t low s) first second → Improved A value n k (Block s (s + 1) t (t + 1)) second third → Improved A value n k (Block t (t + 1) s (s + 1)) third fourth →
+      Improved A value n k (Cross t low (s + 1)) first fourth
+  cross-more k t low s first second third fourth lk lt lo ls p q r =
+      improved-then k (Cross t low s) (Cross t s (s + 1)) (Cross t low (s + 1)) first second fourth lk split left right apart p
+        (improved-then k (Block s (s + 1) t (t + 1)) (Block t (t + 1) s (s + 1)) (Cross t s (s + 1)) second third fourth lk (λ a b h. h) (λ a b h. inl h) (λ a b h. inr h)
+          (λ a b h. (λ g. absurd (omega arith), λ g. absurd (omega arith), λ g. absurd (omega arith))) q r)
+    where
+      split : (a b : ℕ) → Cross t low (s + 1) a b → Cross t low s a b ⊎ Cross t s (s + 1) a b
+      split a b (inl h) = elim (cases-lt a s) [ inl l ↦ inl (inl (h .0, l, h .2, h .3, h .4)) | inr l ↦ inr (inl (l, h .1, h .2, h .3, h .4)) ]
+      split a b (inr h) = elim (cases-lt b s) [ inl l ↦ inl (inr (h .0, h .1, h .2, l, h .4)) | inr l ↦ inr (inr (h .0, h .1, l, h .3, h .4)) ]
+      left : (a b : ℕ) → Cross t low s a b → Cross t low (s + 1) a b
+      left a b (inl h) = inl (h .0, omega arith, h .2, h .3, h .4)
+      left a b (inr h) = inr (h .0, h .1, h .2, omega arith, h .4)
+      right : (a b : ℕ) → Cross t s (s + 1) a b → Cross t low (s + 1) a b
+      right a b (inl h) = inl (omega arith, h .1, h .2, h .3, h .4)
+      right a b (inr h) = inr (h .0, h .1, omega arith, h .3, h .4)
+      apart : (a b : ℕ) → Cross t s (s + 1) a b → (Cross t low s a b → ⊥) × (Cross t low s a k → ⊥) × (Cross t low s k b → ⊥)
+      apart a b h = (no h, row, column)
+        where
+          no : Cross t s (s + 1) a b → Cross t low s a b → ⊥
+          no (inl h) (inl g) = absurd (omega arith)
+          no (inl h) (inr g) = absurd (omega arith)
+          no (inr h) (inl g) = absurd (omega arith)
+          no (inr h) (inr g) = absurd (omega arith)
+          row : Cross t low s a k → ⊥
+          row (inl g) = absurd (omega arith)
+          row (inr g) = absurd (omega arith)
+          column : Cross t low s k b → ⊥
+          column (inl g) = absurd (omega arith)
+          column (inr g) = absurd (omega arith)
+
+-- what a look at two costs tells, where y is their combination
+module _ {A : Algebra} (L : Lawful A) (p q : Option (A .Value)) where
+  abbrev Closing : Type 0
+  Closing = (x : A .Value) × Joined A p q x × A .Under x (A .unit)
+
+  pub closes-none : (p ≡ None) ⊎ (q ≡ None) → Closing → ⊥
+  closes-none h c = none-joined L p q (c .0) h (c .1)
+
+  pub closes-then : (a b y u : A .Value) → p ≡ Some a → q ≡ Some b → y ≡ A .join a b → u ≡ A .unit → A .Under y u → Closing
+  closes-then a b y u ep eq ey eu less = (y, (a, b, ep, eq, ey), subst (A .Under y) eu less)
+
+  pub closes-else : (a b y u : A .Value) → p ≡ Some a → q ≡ Some b → y ≡ A .join a b → u ≡ A .unit → (A .Under y u → ⊥) → Closing → ⊥
+  closes-else a b y u ep eq ey eu more c =
+      more (subst (λ v. A .Under v u) (sym (ey ∙ joined-is L p q a b (c .0) ep eq (c .1))) (subst (A .Under (c .0)) (sym eu) (c .2)))
