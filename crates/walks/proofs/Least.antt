@@ -97,11 +97,11 @@ module _ {A : Algebra} (L : Lawful A) where
           (A .join (s .0) (t .0), inr (s .0, t .0, s .1, t .1, refl), subst (λ z. AtMost A (A .join (s .0) (t .0)) z) (sym (j .4)) (at-most-joined (s .0) (j .0) (t .0) (j .1) (s .2) (t .2)))
 
   -- the least of `Either` by cases
-  none-joined : (p q : Option (A .Value)) (x : A .Value) → (p ≡ None) ⊎ (q ≡ None) → Joined A p q x → ⊥
+  pub none-joined : (p q : Option (A .Value)) (x : A .Value) → (p ≡ None) ⊎ (q ≡ None) → Joined A p q x → ⊥
   none-joined p q x (inl e) j = false≢true (ap isSome (sym e ∙ j .2))
   none-joined p q x (inr e) j = false≢true (ap isSome (sym e ∙ j .3))
 
-  joined-is : (p q : Option (A .Value)) (a b x : A .Value) → p ≡ Some a → q ≡ Some b → Joined A p q x → A .join a b ≡ x
+  pub joined-is : (p q : Option (A .Value)) (a b x : A .Value) → p ≡ Some a → q ≡ Some b → Joined A p q x → A .join a b ≡ x
   joined-is p q a b x ep eq j =
       let d : a ≡ j .0 = cc (j .2) in
       let e : b ≡ j .1 = cc (j .3) in

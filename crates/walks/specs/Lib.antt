@@ -4,3 +4,4 @@ pub mod Price
 pub mod Cells
 pub mod Tracing
 pub mod Sheet
+pub mod Eliminated

@@ -1,5 +1,6 @@
 // Walks over the cards of a register: what they cost, and which cost least.
 mod cells;
+mod eliminate;
 mod pricing;
 mod rows;
 mod trail;
