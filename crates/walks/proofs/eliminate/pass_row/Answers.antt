@@ -1,5 +1,5 @@
 -- A row of cells, one after the other; the pivot lies in none of the columns.
-use mathlib.Core.Path.{_≡_, sym, ap, subst}
+use mathlib.Core.Path.{_≡_, sym, subst}
 use native.Mathlib.Omega.{arith}
 use mathlib.Core.Logic.{inl, inr}
 use Prim.Native.Nat.{ℕ, _+_, _<_, _≤_}
@@ -39,5 +39,5 @@ loop-t-again g c =
 
 pub returns : need.returns
 returns g c =
-    let end = c .loop-t .kept .t-end (c .pre .columns .0) in
-    improved-as _ _ _ _ _ _ _ _ (λ s t h. (h .0, h .1, h .2, omega arith, h .4)) (λ s t h. (h .0, h .1, h .2, omega arith, h .4)) (c .loop-t .inv)
+    let end : c .loop-t .t ≡ c .args .high = let upto = c .loop-t .kept .t-end (c .pre .columns .0) in omega arith in
+    subst (λ j. Improved (g .C·Cost .algebra) (g .C·Cost .value) (c .args .n) (c .args .pivot) (Block (c .args .s) (c .args .s + 1) (c .args .low) j) (c .args .cells .now) (c .loop-t .cells)) end (c .loop-t .inv)
