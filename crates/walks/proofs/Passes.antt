@@ -87,7 +87,8 @@ module _ (A : Algebra) {C : Type 0} (value : C → A .Value) (n : ℕ) where
           let eb : t ≡ b = omega arith in
           let P : ℕ → ℕ → Type 0 = λ i j. LeastOf A (Either A (least-in A value n cells i j) (least-in A value n cells i k) (least-in A value n cells k j)) (least-in A value n (with-least n cells s t o) i j) in
           subst (λ i. P i b) ea (subst (λ j. P s j) eb
-            (subst (λ c. LeastOf A (Either A (least-in A value n cells s t) (least-in A value n cells s k) (least-in A value n cells k t)) (mapped value c)) (sym (least-here n cells s t o room ls lt)) best))
+          (subst (λ c. LeastOf A (Either A (least-in A value n cells s t) (least-in A value n cells s k) (least-in A value n cells k t)) (mapped value c)) (sym (least-here n cells s t o room ls lt)) best))
+
       missed : (a b : ℕ) → a < n → b < n → (Block s (s + 1) t (t + 1) a b → ⊥) → least-in A value n (with-least n cells s t o) a b ≡ least-in A value n cells a b
       missed a b la lb h = ap (mapped value) (least-there n cells s t o a b lt lb (λ e. h (omega arith, omega arith, omega arith, omega arith, λ same. ne (sym (e .0) ∙ same ∙ e .1))))
 
@@ -97,8 +98,8 @@ module _ (A : Algebra) {C : Type 0} (value : C → A .Value) (n : ℕ) where
       Improved A value n k (Block s (s + 1) t (t + 1)) cells (set cells (s * n + t) (record { card = x .card; least = o }))
   improved-read k s t cells x y z o room ls lt ne ex ey ez best =
       subst (λ x. Improved A value n k (Block s (s + 1) t (t + 1)) cells (set cells (s * n + t) (record { card = x .card; least = o }))) (sym ex)
-        (improved-write k s t cells o room ls lt ne
-          (subst₃ (λ x y z. LeastOf A (Either A (mapped value (x .least)) (mapped value (y .least)) (mapped value (z .least))) (mapped value o)) ex ey ez best))
+      (improved-write k s t cells o room ls lt ne
+      (subst₃ (λ x y z. LeastOf A (Either A (mapped value (x .least)) (mapped value (y .least)) (mapped value (z .least))) (mapped value o)) ex ey ez best))
 
   pub improved-none : (k : ℕ) (Hit : ℕ → ℕ → Type 0) (cells : List (Cell C)) → ((s t : ℕ) → Hit s t → ⊥) → Improved A value n k Hit cells cells
   improved-none k Hit cells none = record { hit = λ s t ls lt h. absurd (none s t h); missed = λ s t ls lt h. refl; kept = kept-none n cells }
@@ -121,12 +122,13 @@ module _ (A : Algebra) {C : Type 0} (value : C → A .Value) (n : ℕ) where
           LeastOf A (Either A (least-in A value n first s t) (least-in A value n first s k) (least-in A value n first k t)) (least-in A value n third s t)
       go s t ls lt (inl h) =
           subst (λ o. LeastOf A (Either A (least-in A value n first s t) (least-in A value n first s k) (least-in A value n first k t)) o)
-            (sym (q .missed s t ls lt (λ h′. apart s t h′ .0 h))) (p .hit s t ls lt h)
+          (sym (q .missed s t ls lt (λ h′. apart s t h′ .0 h))) (p .hit s t ls lt h)
       go s t ls lt (inr h) =
           let away = apart s t h in
           subst (λ o. LeastOf A (Either A o (least-in A value n first s k) (least-in A value n first k t)) (least-in A value n third s t)) (p .missed s t ls lt (away .0))
-            (subst (λ o. LeastOf A (Either A (least-in A value n second s t) o (least-in A value n first k t)) (least-in A value n third s t)) (p .missed s k ls lk (away .1))
-              (subst (λ o. LeastOf A (Either A (least-in A value n second s t) (least-in A value n second s k) o) (least-in A value n third s t)) (p .missed k t lk lt (away .2)) (q .hit s t ls lt h)))
+          (subst (λ o. LeastOf A (Either A (least-in A value n second s t) o (least-in A value n first k t)) (least-in A value n third s t)) (p .missed s k ls lk (away .1))
+          (subst (λ o. LeastOf A (Either A (least-in A value n second s t) (least-in A value n second s k) o) (least-in A value n third s t)) (p .missed k t lk lt (away .2)) (q .hit s t ls lt h)))
+
       missed : (s t : ℕ) → s < n → t < n → (Both s t → ⊥) → least-in A value n third s t ≡ least-in A value n first s t
       missed s t ls lt h = q .missed s t ls lt (λ g. h (right s t g)) ∙ p .missed s t ls lt (λ g. h (left s t g))
 
@@ -148,8 +150,8 @@ module _ (A : Algebra) {C : Type 0} (value : C → A .Value) (n : ℕ) where
       Improved A value n k (Block r r′ c m) first second → Improved A value n k (Block r r′ m c′) second third → Improved A value n k (Block r r′ c c′) first third
   block-right k r r′ c m c′ first second third lk lm lm′ rows columns =
       improved-then k (Block r r′ c m) (Block r r′ m c′) (Block r r′ c c′) first second third lk (λ s t h. split s t h (cases-lt t m))
-        (λ s t h. (h .0, h .1, h .2, omega arith, h .4)) (λ s t h. (h .0, h .1, omega arith, h .3, h .4))
-        (λ s t h. (λ g. absurd (omega arith), λ g. columns (g .2) (g .3), λ g. rows (g .0) (g .1)))
+      (λ s t h. (h .0, h .1, h .2, omega arith, h .4)) (λ s t h. (h .0, h .1, omega arith, h .3, h .4))
+      (λ s t h. (λ g. absurd (omega arith), λ g. columns (g .2) (g .3), λ g. rows (g .0) (g .1)))
     where
       split : (s t : ℕ) → Block r r′ c c′ s t → (t < m) ⊎ (m ≤ t) → Block r r′ c m s t ⊎ Block r r′ m c′ s t
       split s t h (inl l) = inl (h .0, h .1, h .2, l, h .4)
@@ -159,8 +161,8 @@ module _ (A : Algebra) {C : Type 0} (value : C → A .Value) (n : ℕ) where
       Improved A value n k (Block r m c c′) first second → Improved A value n k (Block m r′ c c′) second third → Improved A value n k (Block r r′ c c′) first third
   block-down k r m r′ c c′ first second third lk lm lm′ rows columns =
       improved-then k (Block r m c c′) (Block m r′ c c′) (Block r r′ c c′) first second third lk (λ s t h. split s t h (cases-lt s m))
-        (λ s t h. (h .0, omega arith, h .2, h .3, h .4)) (λ s t h. (omega arith, h .1, h .2, h .3, h .4))
-        (λ s t h. (λ g. absurd (omega arith), λ g. columns (g .2) (g .3), λ g. rows (g .0) (g .1)))
+      (λ s t h. (h .0, omega arith, h .2, h .3, h .4)) (λ s t h. (omega arith, h .1, h .2, h .3, h .4))
+      (λ s t h. (λ g. absurd (omega arith), λ g. columns (g .2) (g .3), λ g. rows (g .0) (g .1)))
     where
       split : (s t : ℕ) → Block r r′ c c′ s t → (s < m) ⊎ (m ≤ s) → Block r m c c′ s t ⊎ Block m r′ c c′ s t
       split s t h (inl l) = inl (h .0, l, h .2, h .3, h .4)
@@ -172,18 +174,21 @@ module _ (A : Algebra) {C : Type 0} (value : C → A .Value) (n : ℕ) where
       Improved A value n k (Cross t low (s + 1)) first fourth
   cross-more k t low s first second third fourth lk lt lo ls p q r =
       improved-then k (Cross t low s) (Cross t s (s + 1)) (Cross t low (s + 1)) first second fourth lk split left right apart p
-        (improved-then k (Block s (s + 1) t (t + 1)) (Block t (t + 1) s (s + 1)) (Cross t s (s + 1)) second third fourth lk (λ a b h. h) (λ a b h. inl h) (λ a b h. inr h)
-          (λ a b h. (λ g. absurd (omega arith), λ g. absurd (omega arith), λ g. absurd (omega arith))) q r)
+      (improved-then k (Block s (s + 1) t (t + 1)) (Block t (t + 1) s (s + 1)) (Cross t s (s + 1)) second third fourth lk (λ a b h. h) (λ a b h. inl h) (λ a b h. inr h)
+      (λ a b h. (λ g. absurd (omega arith), λ g. absurd (omega arith), λ g. absurd (omega arith))) q r)
     where
       split : (a b : ℕ) → Cross t low (s + 1) a b → Cross t low s a b ⊎ Cross t s (s + 1) a b
       split a b (inl h) = elim (cases-lt a s) [ inl l ↦ inl (inl (h .0, l, h .2, h .3, h .4)) | inr l ↦ inr (inl (l, h .1, h .2, h .3, h .4)) ]
       split a b (inr h) = elim (cases-lt b s) [ inl l ↦ inl (inr (h .0, h .1, h .2, l, h .4)) | inr l ↦ inr (inr (h .0, h .1, l, h .3, h .4)) ]
+
       left : (a b : ℕ) → Cross t low s a b → Cross t low (s + 1) a b
       left a b (inl h) = inl (h .0, omega arith, h .2, h .3, h .4)
       left a b (inr h) = inr (h .0, h .1, h .2, omega arith, h .4)
+
       right : (a b : ℕ) → Cross t s (s + 1) a b → Cross t low (s + 1) a b
       right a b (inl h) = inl (omega arith, h .1, h .2, h .3, h .4)
       right a b (inr h) = inr (h .0, h .1, omega arith, h .3, h .4)
+
       apart : (a b : ℕ) → Cross t s (s + 1) a b → (Cross t low s a b → ⊥) × (Cross t low s a k → ⊥) × (Cross t low s k b → ⊥)
       apart a b h = (no h, row, column)
         where
@@ -192,9 +197,11 @@ module _ (A : Algebra) {C : Type 0} (value : C → A .Value) (n : ℕ) where
           no (inl h) (inr g) = absurd (omega arith)
           no (inr h) (inl g) = absurd (omega arith)
           no (inr h) (inr g) = absurd (omega arith)
+
           row : Cross t low s a k → ⊥
           row (inl g) = absurd (omega arith)
           row (inr g) = absurd (omega arith)
+
           column : Cross t low s k b → ⊥
           column (inl g) = absurd (omega arith)
           column (inr g) = absurd (omega arith)

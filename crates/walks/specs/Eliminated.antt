@@ -10,7 +10,7 @@ use Rattle.std.specs.declared.option.Option.the-variants.{Some, None}
 use Rattle.costs.specs.Algebra.{Algebra, reach}
 use Rattle.walks.specs.Walk.{LeastOf, Least, LowLeast, GainsAt}
 use Rattle.walks.specs.Theorems.{Either, Joined}
-use Rattle.walks.specs.Cells.{Kept, cards-in, least-in, Each}
+use Rattle.walks.specs.Cells.{Kept, least-in, Each}
 use Rattle.walks.specs.declared.cells.Cell.{Cell}
 
 -- the cells of two different formats in the rows from r to r′ and the columns from c to c′

@@ -25,4 +25,4 @@ index-cells-s g c = omega (arith, place-lt _ _ _ (c .pre .row .0) (c .pre .colum
 pub returns : need.returns
 returns g c =
     improved-read (g .C·Cost .algebra) (g .C·Cost .value) (c .args .n) (c .args .pivot) (c .args .s) (c .args .t) (c .args .cells .now) (c .cell-at-card .result) (c .cell-at-first .result) (c .cell-at-second .result) (c .better .result)
-      (c .pre .ready .room) (c .pre .row .0) (c .pre .column .0) (c .pre .apart) (c .cell-at-card .ensures) (c .cell-at-first .ensures) (c .cell-at-second .ensures) (c .better .ensures)
+    (c .pre .ready .room) (c .pre .row .0) (c .pre .column .0) (c .pre .apart) (c .cell-at-card .ensures) (c .cell-at-first .ensures) (c .cell-at-second .ensures) (c .better .ensures)

@@ -18,11 +18,12 @@ loop-k-again g c =
     let there = read-is (g .C·Cost .algebra) (g .C·Cost .value) (c .args .n) (c .args .h) (c .loop-k .k) (c .args .cells .now) (c .cell-at .result) in
     let back = read-is (g .C·Cost .algebra) (g .C·Cost .value) (c .args .n) (c .loop-k .k) (c .args .h) (c .args .cells .now) in
     below-more _ _ (c .loop-k .inv) (elim (c .match-cell-at .came) [
-      in-Some·in-Some-least·else-undercuts w ↦
-        held-open L (c .args .n) (c .pre .ready .small) _ _ (near .1) (near .0) _ _ _ (there _ (c .cell-at .ensures) (w .in-Some .is)) (back _ _ (w .cell-at-in-Some .ensures) (w .in-Some-least .is)) (w .join .ensures)
+      | in-Some·in-Some-least·else-undercuts w ↦
+          held-open L (c .args .n) (c .pre .ready .small) _ _ (near .1) (near .0) _ _ _ (there _ (c .cell-at .ensures) (w .in-Some .is)) (back _ _ (w .cell-at-in-Some .ensures) (w .in-Some-least .is)) (w .join .ensures)
           _ (c .unit-unit .ensures) (w .undercuts .ensures .never (w .if-undercuts .left))
-    | in-Some·in-rest-least w ↦ λ closes. none-joined L _ _ _ (inr (back _ _ (w .cell-at-in-Some .ensures) (w .in-rest-least .is))) (closes .1)
-    | in-rest w ↦ λ closes. none-joined L _ _ _ (inl (there _ (c .cell-at .ensures) (w .in-rest .is))) (closes .1) ])
+      | in-Some·in-rest-least w ↦ λ closes. none-joined L _ _ _ (inr (back _ _ (w .cell-at-in-Some .ensures) (w .in-rest-least .is))) (closes .1)
+      | in-rest w ↦ λ closes. none-joined L _ _ _ (inl (there _ (c .cell-at .ensures) (w .in-rest .is))) (closes .1)
+    ])
 
 pub returns-then-undercuts : need.returns-then-undercuts
 returns-then-undercuts g c =

@@ -31,10 +31,10 @@ loop-t-again g c =
     let low = c .args .low in
     let Good = Improved (g .C·Cost .algebra) (g .C·Cost .value) (c .args .n) (c .args .pivot) (Block s (s + 1) low (t + 1)) (c .args .cells .now) in
     elim (c .if-t-s .came) [
-      then-t-s w ↦ subst Good (sym (w .cells-is))
-        (block-right _ _ _ _ s (s + 1) low t (t + 1) _ _ _ (c .pre .ready .inside) (omega arith) (omega arith) (λ l u. c .pre .row .1 (omega arith)) (λ l u. c .pre .columns .2 l (omega arith)) (c .loop-t .inv) (w .improve .ensures))
-    | else-t-s w ↦ subst Good (sym (w .cells-is))
-        (improved-as _ _ _ _ (Block s (s + 1) low t) _ _ _ (λ a b h. (h .0, h .1, h .2, omega arith, h .4)) (λ a b h. (h .0, h .1, h .2, lower _ _ _ _ (h .0) (h .1) (h .3) (h .4) (w .if-t-s .left), h .4)) (c .loop-t .inv))
+      | then-t-s w ↦ subst Good (sym (w .cells-is))
+          (block-right _ _ _ _ s (s + 1) low t (t + 1) _ _ _ (c .pre .ready .inside) (omega arith) (omega arith) (λ l u. c .pre .row .1 (omega arith)) (λ l u. c .pre .columns .2 l (omega arith)) (c .loop-t .inv) (w .improve .ensures))
+      | else-t-s w ↦ subst Good (sym (w .cells-is))
+          (improved-as _ _ _ _ (Block s (s + 1) low t) _ _ _ (λ a b h. (h .0, h .1, h .2, omega arith, h .4)) (λ a b h. (h .0, h .1, h .2, lower _ _ _ _ (h .0) (h .1) (h .3) (h .4) (w .if-t-s .left), h .4)) (c .loop-t .inv))
     ]
 
 pub returns : need.returns
