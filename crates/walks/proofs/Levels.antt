@@ -7,12 +7,11 @@ use Prim.Native.Nat.{ℕ, suc, min, max, _+_, _-_, _*_, _≤_, _<_}
 use native.Mathlib.Omega.{arith}
 use lib.ListN.{length}
 use Rattle.std.specs.declared.option.Option.{Option}
-use Rattle.std.specs.declared.option.Option.the-variants.{Some}
 use Rattle.std.proofs.shelf.Tests.{cases-lt, cases-order}
 use Rattle.costs.specs.Algebra.{Algebra, Lawful}
-use Rattle.walks.specs.Walk.{LeastOf, Least, LowLeast, LowWalkCosts, Gains, GainsAt}
+use Rattle.walks.specs.Walk.{LeastOf, Least, LowLeast, LowWalkCosts, GainsAt}
 use Rattle.walks.specs.Theorems.{Sound, Found}
-use Rattle.walks.specs.Cells.{Laid, Each, cards-in, least-in}
+use Rattle.walks.specs.Cells.{Each, least-in}
 use Rattle.walks.specs.Eliminated.{Block, Cross, Swept, Near, Calmed, Ready, Improved, Closes, FirstDone, SecondDone, ThirdDone, SweptTo}
 use Rattle.walks.specs.declared.cells.Cell.{Cell}
 use Rattle.walks.proofs.Least.{least-unique}
@@ -68,12 +67,13 @@ module _ {A : Algebra} (L : Lawful A) {C : Type 0} (value : C → A .Value) (n :
     where
       at : (j a b : ℕ) → a < n → b < n → (a ≡ b → ⊥) → min (min a b) h ≡ j → LowLeast A card j a b (least-in A value n entry a b)
       at j a b la lb d e = subst (λ j. LowLeast A card j a b (least-in A value n entry a b)) e (to a b la lb d)
+
       go : (h < min s t) ⊎ (min s t ≤ h) → LowLeast A card (min (min s t) (h + 1)) s t (least-in A value n exit s t)
       go (inl l) =
           let e : suc h ≡ min (min s t) (h + 1) = omega arith in
           subst (λ j. LowLeast A card j s t (least-in A value n exit s t)) e
-            (fold-step L card h s t _ _ _ _ calm (at h s t ls lt ne (omega arith)) (at h s h ls lh (λ d. absurd (omega arith)) (omega arith)) (at h h t lh lt (λ d. absurd (omega arith)) (omega arith))
-              (i .hit s t ls lt (omega arith, ls, omega arith, lt, ne)))
+          (fold-step L card h s t _ _ _ _ calm (at h s t ls lt ne (omega arith)) (at h s h ls lh (λ d. absurd (omega arith)) (omega arith)) (at h h t lh lt (λ d. absurd (omega arith)) (omega arith))
+          (i .hit s t ls lt (omega arith, ls, omega arith, lt, ne)))
       go (inr l) =
           subst (LowLeast A card (min (min s t) (h + 1)) s t) (sym (i .missed s t ls lt (λ b. absurd (omega arith)))) (at (min (min s t) (h + 1)) s t ls lt ne (omega arith))
 
@@ -84,13 +84,17 @@ module _ {A : Algebra} (L : Lawful A) {C : Type 0} (value : C → A .Value) (n :
     where
       there : (k : ℕ) → k < h → LowLeast A card k h k (least-in A value n cells h k)
       there k l = let e : min (min h k) h ≡ k = omega arith in subst (λ j. LowLeast A card j h k (least-in A value n cells h k)) e (to h k lh (omega arith) (λ d. absurd (omega arith)))
+
       back : (k : ℕ) → k < h → LowLeast A card k k h (least-in A value n cells k h)
       back k l = let e : min (min k h) h ≡ k = omega arith in subst (λ j. LowLeast A card j k h (least-in A value n cells k h)) e (to k h (omega arith) lh (λ d. absurd (omega arith)))
+
       found : (k : ℕ) → k < h → Closes A value n cells h k → Found A card h k
       found k l (x, (a, b, p, q, e), u) = (a, b, subst (LowLeast A card k h k) p (there k l), subst (LowLeast A card k k h) q (back k l), subst (λ y. A .Under y (A .unit)) e u)
+
       closes : (k : ℕ) → k < h → Found A card h k → Closes A value n cells h k
       closes k l (a, b, p, q, u) =
           (A .join a b, (a, b, least-unique L (LowWalkCosts A card k h k) _ _ (there k l) p, least-unique L (LowWalkCosts A card k k h) _ _ (back k l) q, refl), u)
+
       both : (((k : ℕ) × (k < h) × Found A card h k) → GainsAt A card h) × (((k : ℕ) → k < h → Found A card h k → ⊥) → GainsAt A card h → ⊥)
       both = look-finds L n card sound h calm (λ k l. (_, there k l)) (λ k l. (_, back k l))
 
@@ -127,19 +131,24 @@ module _ {A : Algebra} (L : Lawful A) {C : Type 0} (value : C → A .Value) (n :
     where
       low : (j : ℕ) → Swept t t (min a b) (max a b) j → LowLeast A card j a b (least-in A value n cells a b)
       low = to a b la lb ne
+
       same : (j : ℕ) → j ≡ h → LowLeast A card j a b (least-in A value n cells a b) → LowLeast A card h a b (least-in A value n cells a b)
       same j e = subst (λ j. LowLeast A card j a b (least-in A value n cells a b)) e
+
       lift : (a ≡ t) ⊎ (b ≡ t) → LowLeast A card t a b (least-in A value n cells a b) → LowLeast A card (suc t) a b (least-in A value n cells a b)
       lift (inl e) l = subst (λ s. LowLeast A card (suc s) a b (least-in A value n cells a b)) e
           (low-start L card a b _ (subst (λ s. GainsAt A card s → ⊥) (sym e) calm) (subst (λ s. LowLeast A card s a b (least-in A value n cells a b)) (sym e) l))
       lift (inr e) l = subst (λ s. LowLeast A card (suc s) a b (least-in A value n cells a b)) e
           (low-end L card a b _ (subst (λ s. GainsAt A card s → ⊥) (sym e) calm) (subst (λ s. LowLeast A card s a b (least-in A value n cells a b)) (sym e) l))
+
       end : min a b ≡ t → (a < b) ⊎ (b ≤ a) → (a ≡ t) ⊎ (b ≡ t)
       end e (inl l) = inl (omega arith)
       end e (inr l) = inr (omega arith)
+
       apart : (a < b) ⊎ (b ≤ a) → min a b < max a b
       apart (inl l) = omega arith
       apart (inr l) = elim (cases-order a b) [ inl e ↦ absurd (ne e) | inr (inl m) ↦ omega arith | inr (inr m) ↦ omega arith ]
+
       go : Swept t (t + 1) (min a b) (max a b) h → LowLeast A card h a b (least-in A value n cells a b)
       go (inl d) = low h (inl d)
       go (inr (inl d)) =
@@ -153,25 +162,31 @@ module _ {A : Algebra} (L : Lawful A) {C : Type 0} (value : C → A .Value) (n :
     where
       miss : (Cross t (k + 1) n a b → ⊥) → Swept t k (min a b) (max a b) h → LowLeast A card h a b (least-in A value n exit a b)
       miss out v = subst (LowLeast A card h a b) (sym (i .missed a b la lb out)) (to a b la lb ne h v)
+
       fold : Cross t (k + 1) n a b → suc k ≡ h → LowLeast A card k a b (least-in A value n entry a b) → LowLeast A card k a k (least-in A value n entry a k) →
           LowLeast A card k k b (least-in A value n entry k b) → LowLeast A card h a b (least-in A value n exit a b)
       fold c e lo lp lq = subst (λ j. LowLeast A card j a b (least-in A value n exit a b)) e (fold-step L card k a b _ _ _ _ calm lo lp lq (i .hit a b la lb c))
+
       low : min a b ≡ t → max a b ≤ k → Cross t (k + 1) n a b → ⊥
       low e l (inl c) = absurd (omega arith)
       low e l (inr c) = absurd (omega arith)
+
       other : (min a b ≡ t → ⊥) → Cross t (k + 1) n a b → ⊥
       other d (inl c) = d (omega arith)
       other d (inr c) = d (omega arith)
+
       high : min a b ≡ t → k < max a b → h ≡ min (max a b) (k + 1) → (a < b) ⊎ (b ≤ a) → LowLeast A card h a b (least-in A value n exit a b)
       high e l f (inl m) =
           fold (inr (omega arith, omega arith, omega arith, lb, ne)) (omega arith) (to a b la lb ne k (inr (inl (e, omega arith))))
-            (to a k la lk (λ d. absurd (omega arith)) k (inr (inl (omega arith, omega arith)))) (to k b lk lb (λ d. absurd (omega arith)) k (inr (inr (omega arith, omega arith))))
+          (to a k la lk (λ d. absurd (omega arith)) k (inr (inl (omega arith, omega arith)))) (to k b lk lb (λ d. absurd (omega arith)) k (inr (inr (omega arith, omega arith))))
       high e l f (inr m) =
           fold (inl (omega arith, la, omega arith, omega arith, ne)) (omega arith) (to a b la lb ne k (inr (inl (e, omega arith))))
-            (to a k la lk (λ d. absurd (omega arith)) k (inr (inr (omega arith, omega arith)))) (to k b lk lb (λ d. absurd (omega arith)) k (inr (inl (omega arith, omega arith))))
+          (to a k la lk (λ d. absurd (omega arith)) k (inr (inr (omega arith, omega arith)))) (to k b lk lb (λ d. absurd (omega arith)) k (inr (inl (omega arith, omega arith))))
+
       turn : min a b ≡ t → h ≡ min (max a b) (k + 1) → (k < max a b) ⊎ (max a b ≤ k) → LowLeast A card h a b (least-in A value n exit a b)
       turn e f (inl l) = high e l f (cases-lt a b)
       turn e f (inr l) = miss (low e l) (inr (inl (e, omega arith)))
+
       go : Swept t (k + 1) (min a b) (max a b) h → LowLeast A card h a b (least-in A value n exit a b)
       go (inl d) = miss (other (λ e. absurd (omega arith))) (inl d)
       go (inr (inl d)) = turn (d .0) (d .1) (cases-lt k (max a b))
@@ -211,7 +226,7 @@ module _ {A : Algebra} (L : Lawful A) {C : Type 0} (value : C → A .Value) (n :
       near s t ls lt ne l x e =
           let few = sound .small in
           L .within-more (n - 1) (suc n) x (omega arith) (omega arith)
-            (least-is-near L n card sound (no-hidden-loop L n card sound calm) s t ne x (subst (Least A card s t) e (third-least cells (suc k) calm to s t ls lt ne l)))
+          (least-is-near L n card sound (no-hidden-loop L n card sound calm) s t ne x (subst (Least A card s t) e (third-least cells (suc k) calm to s t ls lt ne l)))
 
   pub third-more : (entry exit : List (Cell C)) (k : ℕ) → k < n → Calmed A card n → ThirdTo A value n card entry (suc k) →
       Improved A value n k (Block 0 k 0 k) entry exit → ThirdTo A value n card exit k
@@ -220,7 +235,7 @@ module _ {A : Algebra} (L : Lawful A) {C : Type 0} (value : C → A .Value) (n :
       go : (max s t < k) ⊎ (k ≤ max s t) → LeastOf A (ThirdCosts A card n k s t) (least-in A value n exit s t)
       go (inl l) =
           third-step L card n k s t _ _ _ _ (omega arith) (omega arith) lk (to s t ls lt ne) (third-least entry (suc k) calm to s k ls lk (λ e. absurd (omega arith)) (omega arith))
-            (third-least entry (suc k) calm to k t lk lt (λ e. absurd (omega arith)) (omega arith)) (i .hit s t ls lt (omega arith, omega arith, omega arith, omega arith, ne))
+          (third-least entry (suc k) calm to k t lk lt (λ e. absurd (omega arith)) (omega arith)) (i .hit s t ls lt (omega arith, omega arith, omega arith, omega arith, ne))
       go (inr l) =
           subst (LeastOf A (ThirdCosts A card n k s t)) (sym (i .missed s t ls lt (λ b. absurd (omega arith)))) (third-skip L card n k s t _ l (to s t ls lt ne))
 

@@ -1,11 +1,10 @@
 -- Passes over a table of cells: what one write does, two passes after each other, and what a pass keeps.
 -- The cell of s and t stands at s * n + t.
-use mathlib.Core.Path.{_≡_, refl, sym, ap, ap₂, subst, fun-ext, _∙_}
+use mathlib.Core.Path.{_≡_, refl, sym, ap, subst, subst₂, subst₃, fun-ext, _∙_}
 use mathlib.Core.Bool.{not, _&&_, cond}
 use mathlib.Core.List.{List}
-use mathlib.Core.Logic.{_⊎_, inl, inr, ⊎-elim}
+use mathlib.Core.Logic.{_⊎_, inl, inr}
 use Prim.Native.Nat.{ℕ, suc, _+_, _*_, _/_, _%_, _≤_, _<_}
-use native.Mathlib.Nat.{mul-comm}
 use native.Mathlib.Omega.{arith}
 use lib.Dec.{eqb, ltb}
 use lib.ListN.{length, getD, set}
@@ -21,7 +20,7 @@ use Rattle.walks.specs.Theorems.{Sound, Either, Joined}
 use Rattle.walks.specs.Cells.{empty, cell, Kept, Laid, cards-in, least-in}
 use Rattle.walks.specs.Eliminated.{Block, Cross, Near, Ready, Improved}
 use Rattle.walks.specs.declared.cells.Cell.{Cell}
-use Rattle.walks.proofs.Least.{none-joined, joined-is}
+use Rattle.walks.proofs.Least.{either-new, either-better, either-kept, joined-is}
 
 -- addresses
 pub place-lt : (n s t : ℕ) → s < n → t < n → s * n + t < n * n
@@ -32,11 +31,6 @@ place-same n s t a b lt lb e = (
   sym (div-mul-add s n t lt) ∙ ap (λ p. p / n) e ∙ div-mul-add a n b lb,
   sym (mod-mul-add s n t lt) ∙ ap (λ p. p % n) e ∙ mod-mul-add a n b lb,
 )
-
--- two near costs are combined exactly
-pub near-join : (A : Algebra) (n : ℕ) (p q : Option (A .Value)) (a b y : A .Value) → 2 * (n + 1) ≤ reach → Near A n p → Near A n q → p ≡ Some a → q ≡ Some b →
-    ((m k : ℕ) → m + k ≤ reach → A .Within m a → A .Within k b → y ≡ A .join a b) → y ≡ A .join a b
-near-join A n p q a b y small np nq ep eq exact = exact (suc n) (suc n) (omega arith) (np a ep) (nq b eq)
 
 module _ {C : Type 0} (n : ℕ) where
   pub kept-none : (cells : List (Cell C)) → Kept n cells cells
@@ -81,7 +75,7 @@ module _ (A : Algebra) {C : Type 0} (value : C → A .Value) (n : ℕ) where
   laid-kept entry exit k l = record { room = rw (k .long) (l .room); sound = subst (Sound A n) (sym (cards-kept entry exit k)) (l .sound) }
 
   -- one write of the better cost is a pass over one cell
-  pub improved-write : (k s t : ℕ) (cells : List (Cell C)) (o : Option C) → n * n ≤ length cells → s < n → t < n → (s ≡ t → ⊥) →
+  improved-write : (k s t : ℕ) (cells : List (Cell C)) (o : Option C) → n * n ≤ length cells → s < n → t < n → (s ≡ t → ⊥) →
       LeastOf A (Either A (least-in A value n cells s t) (least-in A value n cells s k) (least-in A value n cells k t)) (mapped value o) →
       Improved A value n k (Block s (s + 1) t (t + 1)) cells (with-least n cells s t o)
   improved-write k s t cells o room ls lt ne best = record { hit = hit; missed = missed; kept = kept-write n cells s t o room ls lt }
@@ -93,9 +87,19 @@ module _ (A : Algebra) {C : Type 0} (value : C → A .Value) (n : ℕ) where
           let eb : t ≡ b = omega arith in
           let P : ℕ → ℕ → Type 0 = λ i j. LeastOf A (Either A (least-in A value n cells i j) (least-in A value n cells i k) (least-in A value n cells k j)) (least-in A value n (with-least n cells s t o) i j) in
           subst (λ i. P i b) ea (subst (λ j. P s j) eb
-            (subst (λ c. LeastOf A (Either A (least-in A value n cells s t) (least-in A value n cells s k) (least-in A value n cells k t)) (mapped value c)) (sym (least-here n cells s t o room ls lt)) best))
+          (subst (λ c. LeastOf A (Either A (least-in A value n cells s t) (least-in A value n cells s k) (least-in A value n cells k t)) (mapped value c)) (sym (least-here n cells s t o room ls lt)) best))
+
       missed : (a b : ℕ) → a < n → b < n → (Block s (s + 1) t (t + 1) a b → ⊥) → least-in A value n (with-least n cells s t o) a b ≡ least-in A value n cells a b
       missed a b la lb h = ap (mapped value) (least-there n cells s t o a b lt lb (λ e. h (omega arith, omega arith, omega arith, omega arith, λ same. ne (sym (e .0) ∙ same ∙ e .1))))
+
+  -- the same, where the three cells were read
+  pub improved-read : (k s t : ℕ) (cells : List (Cell C)) (x y z : Cell C) (o : Option C) → n * n ≤ length cells → s < n → t < n → (s ≡ t → ⊥) →
+      x ≡ cell n cells s t → y ≡ cell n cells s k → z ≡ cell n cells k t → LeastOf A (Either A (mapped value (x .least)) (mapped value (y .least)) (mapped value (z .least))) (mapped value o) →
+      Improved A value n k (Block s (s + 1) t (t + 1)) cells (set cells (s * n + t) (record { card = x .card; least = o }))
+  improved-read k s t cells x y z o room ls lt ne ex ey ez best =
+      subst (λ x. Improved A value n k (Block s (s + 1) t (t + 1)) cells (set cells (s * n + t) (record { card = x .card; least = o }))) (sym ex)
+      (improved-write k s t cells o room ls lt ne
+      (subst₃ (λ x y z. LeastOf A (Either A (mapped value (x .least)) (mapped value (y .least)) (mapped value (z .least))) (mapped value o)) ex ey ez best))
 
   pub improved-none : (k : ℕ) (Hit : ℕ → ℕ → Type 0) (cells : List (Cell C)) → ((s t : ℕ) → Hit s t → ⊥) → Improved A value n k Hit cells cells
   improved-none k Hit cells none = record { hit = λ s t ls lt h. absurd (none s t h); missed = λ s t ls lt h. refl; kept = kept-none n cells }
@@ -118,12 +122,13 @@ module _ (A : Algebra) {C : Type 0} (value : C → A .Value) (n : ℕ) where
           LeastOf A (Either A (least-in A value n first s t) (least-in A value n first s k) (least-in A value n first k t)) (least-in A value n third s t)
       go s t ls lt (inl h) =
           subst (λ o. LeastOf A (Either A (least-in A value n first s t) (least-in A value n first s k) (least-in A value n first k t)) o)
-            (sym (q .missed s t ls lt (λ h′. apart s t h′ .0 h))) (p .hit s t ls lt h)
+          (sym (q .missed s t ls lt (λ h′. apart s t h′ .0 h))) (p .hit s t ls lt h)
       go s t ls lt (inr h) =
           let away = apart s t h in
           subst (λ o. LeastOf A (Either A o (least-in A value n first s k) (least-in A value n first k t)) (least-in A value n third s t)) (p .missed s t ls lt (away .0))
-            (subst (λ o. LeastOf A (Either A (least-in A value n second s t) o (least-in A value n first k t)) (least-in A value n third s t)) (p .missed s k ls lk (away .1))
-              (subst (λ o. LeastOf A (Either A (least-in A value n second s t) (least-in A value n second s k) o) (least-in A value n third s t)) (p .missed k t lk lt (away .2)) (q .hit s t ls lt h)))
+          (subst (λ o. LeastOf A (Either A (least-in A value n second s t) o (least-in A value n first k t)) (least-in A value n third s t)) (p .missed s k ls lk (away .1))
+          (subst (λ o. LeastOf A (Either A (least-in A value n second s t) (least-in A value n second s k) o) (least-in A value n third s t)) (p .missed k t lk lt (away .2)) (q .hit s t ls lt h)))
+
       missed : (s t : ℕ) → s < n → t < n → (Both s t → ⊥) → least-in A value n third s t ≡ least-in A value n first s t
       missed s t ls lt h = q .missed s t ls lt (λ g. h (right s t g)) ∙ p .missed s t ls lt (λ g. h (left s t g))
 
@@ -145,8 +150,8 @@ module _ (A : Algebra) {C : Type 0} (value : C → A .Value) (n : ℕ) where
       Improved A value n k (Block r r′ c m) first second → Improved A value n k (Block r r′ m c′) second third → Improved A value n k (Block r r′ c c′) first third
   block-right k r r′ c m c′ first second third lk lm lm′ rows columns =
       improved-then k (Block r r′ c m) (Block r r′ m c′) (Block r r′ c c′) first second third lk (λ s t h. split s t h (cases-lt t m))
-        (λ s t h. (h .0, h .1, h .2, omega arith, h .4)) (λ s t h. (h .0, h .1, omega arith, h .3, h .4))
-        (λ s t h. (λ g. absurd (omega arith), λ g. columns (g .2) (g .3), λ g. rows (g .0) (g .1)))
+      (λ s t h. (h .0, h .1, h .2, omega arith, h .4)) (λ s t h. (h .0, h .1, omega arith, h .3, h .4))
+      (λ s t h. (λ g. absurd (omega arith), λ g. columns (g .2) (g .3), λ g. rows (g .0) (g .1)))
     where
       split : (s t : ℕ) → Block r r′ c c′ s t → (t < m) ⊎ (m ≤ t) → Block r r′ c m s t ⊎ Block r r′ m c′ s t
       split s t h (inl l) = inl (h .0, h .1, h .2, l, h .4)
@@ -156,8 +161,8 @@ module _ (A : Algebra) {C : Type 0} (value : C → A .Value) (n : ℕ) where
       Improved A value n k (Block r m c c′) first second → Improved A value n k (Block m r′ c c′) second third → Improved A value n k (Block r r′ c c′) first third
   block-down k r m r′ c c′ first second third lk lm lm′ rows columns =
       improved-then k (Block r m c c′) (Block m r′ c c′) (Block r r′ c c′) first second third lk (λ s t h. split s t h (cases-lt s m))
-        (λ s t h. (h .0, omega arith, h .2, h .3, h .4)) (λ s t h. (omega arith, h .1, h .2, h .3, h .4))
-        (λ s t h. (λ g. absurd (omega arith), λ g. columns (g .2) (g .3), λ g. rows (g .0) (g .1)))
+      (λ s t h. (h .0, omega arith, h .2, h .3, h .4)) (λ s t h. (omega arith, h .1, h .2, h .3, h .4))
+      (λ s t h. (λ g. absurd (omega arith), λ g. columns (g .2) (g .3), λ g. rows (g .0) (g .1)))
     where
       split : (s t : ℕ) → Block r r′ c c′ s t → (s < m) ⊎ (m ≤ s) → Block r m c c′ s t ⊎ Block m r′ c c′ s t
       split s t h (inl l) = inl (h .0, l, h .2, h .3, h .4)
@@ -169,18 +174,21 @@ module _ (A : Algebra) {C : Type 0} (value : C → A .Value) (n : ℕ) where
       Improved A value n k (Cross t low (s + 1)) first fourth
   cross-more k t low s first second third fourth lk lt lo ls p q r =
       improved-then k (Cross t low s) (Cross t s (s + 1)) (Cross t low (s + 1)) first second fourth lk split left right apart p
-        (improved-then k (Block s (s + 1) t (t + 1)) (Block t (t + 1) s (s + 1)) (Cross t s (s + 1)) second third fourth lk (λ a b h. h) (λ a b h. inl h) (λ a b h. inr h)
-          (λ a b h. (λ g. absurd (omega arith), λ g. absurd (omega arith), λ g. absurd (omega arith))) q r)
+      (improved-then k (Block s (s + 1) t (t + 1)) (Block t (t + 1) s (s + 1)) (Cross t s (s + 1)) second third fourth lk (λ a b h. h) (λ a b h. inl h) (λ a b h. inr h)
+      (λ a b h. (λ g. absurd (omega arith), λ g. absurd (omega arith), λ g. absurd (omega arith))) q r)
     where
       split : (a b : ℕ) → Cross t low (s + 1) a b → Cross t low s a b ⊎ Cross t s (s + 1) a b
       split a b (inl h) = elim (cases-lt a s) [ inl l ↦ inl (inl (h .0, l, h .2, h .3, h .4)) | inr l ↦ inr (inl (l, h .1, h .2, h .3, h .4)) ]
       split a b (inr h) = elim (cases-lt b s) [ inl l ↦ inl (inr (h .0, h .1, h .2, l, h .4)) | inr l ↦ inr (inr (h .0, h .1, l, h .3, h .4)) ]
+
       left : (a b : ℕ) → Cross t low s a b → Cross t low (s + 1) a b
       left a b (inl h) = inl (h .0, omega arith, h .2, h .3, h .4)
       left a b (inr h) = inr (h .0, h .1, h .2, omega arith, h .4)
+
       right : (a b : ℕ) → Cross t s (s + 1) a b → Cross t low (s + 1) a b
       right a b (inl h) = inl (omega arith, h .1, h .2, h .3, h .4)
       right a b (inr h) = inr (h .0, h .1, omega arith, h .3, h .4)
+
       apart : (a b : ℕ) → Cross t s (s + 1) a b → (Cross t low s a b → ⊥) × (Cross t low s a k → ⊥) × (Cross t low s k b → ⊥)
       apart a b h = (no h, row, column)
         where
@@ -189,24 +197,37 @@ module _ (A : Algebra) {C : Type 0} (value : C → A .Value) (n : ℕ) where
           no (inl h) (inr g) = absurd (omega arith)
           no (inr h) (inl g) = absurd (omega arith)
           no (inr h) (inr g) = absurd (omega arith)
+
           row : Cross t low s a k → ⊥
           row (inl g) = absurd (omega arith)
           row (inr g) = absurd (omega arith)
+
           column : Cross t low s k b → ⊥
           column (inl g) = absurd (omega arith)
           column (inr g) = absurd (omega arith)
 
--- what a look at two costs tells, where y is their combination
-module _ {A : Algebra} (L : Lawful A) (p q : Option (A .Value)) where
-  abbrev Closing : Type 0
-  Closing = (x : A .Value) × Joined A p q x × A .Under x (A .unit)
+-- y is held for the combination of two near costs p and q: it is exact, so what is told by it is told by them
+module _ {A : Algebra} (L : Lawful A) (n : ℕ) (small : 2 * (n + 1) ≤ reach) (p q : Option (A .Value)) (np : Near A n p) (nq : Near A n q) (a b y : A .Value) (ep : p ≡ Some a) (eq : q ≡ Some b)
+    (exact : (m k : ℕ) → m + k ≤ reach → A .Within m a → A .Within k b → y ≡ A .join a b) where
+  joined : y ≡ A .join a b
+  joined = exact (suc n) (suc n) (omega arith) (np a ep) (nq b eq)
 
-  pub closes-none : (p ≡ None) ⊎ (q ≡ None) → Closing → ⊥
-  closes-none h c = none-joined L p q (c .0) h (c .1)
+  pub held-new : (o : Option (A .Value)) → o ≡ None → LeastOf A (Either A o p q) (Some y)
+  held-new o eo = subst (λ x. LeastOf A (Either A o p q) (Some x)) (sym joined) (either-new L o p q a b eo ep eq)
 
-  pub closes-then : (a b y u : A .Value) → p ≡ Some a → q ≡ Some b → y ≡ A .join a b → u ≡ A .unit → A .Under y u → Closing
-  closes-then a b y u ep eq ey eu less = (y, (a, b, ep, eq, ey), subst (A .Under y) eu less)
+  pub held-better : (o : Option (A .Value)) (z : A .Value) → o ≡ Some z → A .Under y z → LeastOf A (Either A o p q) (Some y)
+  held-better o z eo less =
+      subst (λ x. LeastOf A (Either A o p q) (Some x)) (sym joined) (either-better L o p q z a b eo ep eq (subst (λ x. A .Under x z) joined less))
 
-  pub closes-else : (a b y u : A .Value) → p ≡ Some a → q ≡ Some b → y ≡ A .join a b → u ≡ A .unit → (A .Under y u → ⊥) → Closing → ⊥
-  closes-else a b y u ep eq ey eu more c =
-      more (subst (λ v. A .Under v u) (sym (ey ∙ joined-is L p q a b (c .0) ep eq (c .1))) (subst (A .Under (c .0)) (sym eu) (c .2)))
+  pub held-kept : (o : Option (A .Value)) (z : A .Value) → o ≡ Some z → (A .Under y z → ⊥) → LeastOf A (Either A o p q) (Some z)
+  held-kept o z eo more = either-kept L o p q z a b eo ep eq (subst (λ x. A .Under x z → ⊥) joined more)
+
+  pub held-closes : (u : A .Value) → u ≡ A .unit → A .Under y u → (x : A .Value) × Joined A p q x × A .Under x (A .unit)
+  held-closes u eu less = (y, (a, b, ep, eq, joined), subst (A .Under y) eu less)
+
+  pub held-open : (u : A .Value) → u ≡ A .unit → (A .Under y u → ⊥) → (x : A .Value) × Joined A p q x × A .Under x (A .unit) → ⊥
+  held-open u eu more (x, j, less) = more (subst₂ (A .Under) (sym (joined ∙ joined-is L p q a b x ep eq j)) (sym eu) less)
+
+-- a cell that was read
+pub read-is : (A : Algebra) {C : Type 0} (value : C → A .Value) (n s t : ℕ) (cells : List (Cell C)) (x : Cell C) (o : Option C) → x ≡ cell n cells s t → x .least ≡ o → least-in A value n cells s t ≡ mapped value o
+read-is A value n s t cells x o e f = ap (λ y. mapped value (y .least)) (sym e) ∙ ap (mapped value) f

@@ -5,13 +5,12 @@ use mathlib.Core.List.{List}
 use mathlib.Core.Logic.{_⊎_}
 use Prim.Native.Nat.{ℕ, suc, min, max, _+_, _*_, _<_, _≤_}
 use lib.ListN.{length}
-use Rattle.std.specs.Options.{mapped}
 use Rattle.std.specs.declared.option.Option.{Option}
 use Rattle.std.specs.declared.option.Option.the-variants.{Some, None}
 use Rattle.costs.specs.Algebra.{Algebra, reach}
 use Rattle.walks.specs.Walk.{LeastOf, Least, LowLeast, GainsAt}
 use Rattle.walks.specs.Theorems.{Either, Joined}
-use Rattle.walks.specs.Cells.{Kept, cards-in, least-in, Each}
+use Rattle.walks.specs.Cells.{Kept, least-in, Each}
 use Rattle.walks.specs.declared.cells.Cell.{Cell}
 
 -- the cells of two different formats in the rows from r to r′ and the columns from c to c′
@@ -34,11 +33,6 @@ module _ (A : Algebra) where
   -- no closed walk at a format below h, through lower ones, undercuts the unit
   abbrev pub Calmed : (ℕ → ℕ → Option (A .Value)) → ℕ → Type 0
   Calmed card h = (k : ℕ) → k < h → GainsAt A card k → ⊥
-
-  -- r is the lowest format below n at which a closed walk through lower formats undercuts the unit, if there is one
-  abbrev pub Looked : (ℕ → ℕ → Option (A .Value)) → ℕ → Option ℕ → Type 0
-  Looked card n (Some h) = (h < n) × GainsAt A card h × Calmed card h
-  Looked card n None = Calmed card n
 
 module _ (A : Algebra) {C : Type 0} (value : C → A .Value) (n : ℕ) where
   -- a pass by way of k can combine: the table has its cells, and the costs to and from k are near
@@ -76,7 +70,7 @@ module _ (A : Algebra) {C : Type 0} (value : C → A .Value) (n : ℕ) where
     abbrev pub SweptTo : ℕ → ℕ → Type 0
     SweptTo t k = Each A value n cells (λ a b o. (h : ℕ) → Swept t k (min a b) (max a b) h → LowLeast A card h a b o)
 
-    -- what the first stage has found: a format where it stopped, or each cell's least cost
+    -- the first format at which a closed walk through lower ones undercuts the unit; or there is none, and each cell has its cost
     abbrev pub FirstFound : Option ℕ → Type 0
-    FirstFound (Some h) = Looked A card n (Some h)
-    FirstFound None = Looked A card n None × FirstDone
+    FirstFound (Some h) = (h < n) × GainsAt A card h × Calmed A card h
+    FirstFound None = Calmed A card n × FirstDone

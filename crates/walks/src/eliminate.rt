@@ -7,7 +7,7 @@ ghost use Rattle.std.specs.Options.{mapped};
 ghost use Rattle.costs.specs.Algebra.{reach};
 ghost use Rattle.walks.specs.Walk.{LeastOf};
 ghost use Rattle.walks.specs.Theorems.{Either};
-ghost use Rattle.walks.specs.Cells.{Laid, Kept, Each, cell, cards-in, least-in};
+ghost use Rattle.walks.specs.Cells.{Laid, Kept, Each, cell, cards-in};
 ghost use Rattle.walks.specs.Eliminated.{Block, Cross, Near, Calmed, Ready, Improved, Closes, FirstDone, SecondDone, ThirdDone, SweptTo, FirstFound};
 use crate::Cell;
 use costs::Cost;
@@ -29,7 +29,11 @@ fn better<C: Cost>(n: usize, held: Option<C>, first: Option<C>, second: Option<C
     let Some(cost) = held else {
         return Some(sum);
     };
-    if sum.undercuts(cost) { Some(sum) } else { Some(cost) }
+    if sum.undercuts(cost) {
+        Some(sum)
+    } else {
+        Some(cost)
+    }
 }
 
 // The cell of `s` and `t`.
@@ -53,11 +57,21 @@ fn improve<C: Cost>(cells: &mut [Cell<C>], n: usize, s: usize, pivot: usize, t: 
     let Cell { card, least } = cell_at(cells, n, s, t);
     let first = cell_at(cells, n, s, pivot).least;
     let second = cell_at(cells, n, pivot, t).least;
-    cells[s * n + t] = Cell { card, least: better(n, least, first, second) };
+    cells[s * n + t] = Cell {
+        card,
+        least: better(n, least, first, second),
+    };
 }
 
 // Every cell of `s` and a format from `low` to `high`, by way of the pivot.
-fn pass_row<C: Cost>(cells: &mut [Cell<C>], n: usize, pivot: usize, s: usize, low: usize, high: usize)
+fn pass_row<C: Cost>(
+    cells: &mut [Cell<C>],
+    n: usize,
+    pivot: usize,
+    s: usize,
+    low: usize,
+    high: usize,
+)
     requires ready { ⌜ Ready (C·Cost .algebra) (C·Cost .value) n pivot (now cells) ⌝ }
     requires row { ⌜ (s < n) × (s ≡ pivot → ⊥) ⌝ }
     requires columns { ⌜ (low ≤ high) × (high ≤ n) × ((low ≤ pivot) → (pivot < high) → ⊥) ⌝ }

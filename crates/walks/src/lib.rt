@@ -8,6 +8,9 @@ mod trail;
 ghost use Rattle.walks.specs.Cells.{Laid};
 
 pub use cells::Cell;
+pub use eliminate::first_stage;
+pub use eliminate::second_stage;
+pub use eliminate::third_stage;
 pub use pricing::Unpriced;
 pub use pricing::price;
 pub use rows::ROW;

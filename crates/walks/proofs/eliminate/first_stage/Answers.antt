@@ -1,8 +1,6 @@
 -- Before the look at h the cells are at level h, and no look below h found a closed walk.
-use mathlib.Core.Path.{_≡_, sym}
 use native.Mathlib.Omega.{arith}
 use borrow.Author.Count.{below-more}
-use Rattle.walks.specs.Cells.{Kept, Laid}
 use Rattle.walks.proofs.Passes.{kept-none, kept-then, laid-kept}
 use Rattle.walks.proofs.Levels.{first-none, first-ready, first-more, first-looked, first-all}
 use Rattle.walks.proofs.eliminate.first_stage.Needs as need
@@ -32,8 +30,7 @@ pub loop-h-again : need.loop-h-again
 loop-h-again g c =
     let L = g .C·Cost·met .lawful in
     let look = first-looked L _ _ _ (c .pre .laid .sound) _ _ (c .loop-h-test .taken) (c .loop-h .inv .1) (c .loop-h .inv .2) in
-    let calm = look .1 (c .looks .ensures .no (c .if-looks .left)) in
-    (
+    let calm = look .1 (c .looks .ensures .no (c .if-looks .left)) in (
       kept-then _ _ _ _ (c .loop-h .inv .0) (c .pass .ensures .kept),
       below-more _ _ (c .loop-h .inv .1) calm,
       first-more L _ _ _ (c .pre .laid .sound) _ _ _ (c .loop-h-test .taken) calm (c .loop-h .inv .2) (c .pass .ensures),

@@ -1,5 +1,4 @@
 use Prim.Native.Nat.{ℕ, _<_}
-use mathlib.Core.Path.{_≡_}
 use Rattle.walks.specs.Eliminated.{Closes}
 use Rattle.walks.proofs.eliminate.looks.Given as given
 

@@ -1,6 +1,8 @@
 -- A square of cells, row by row; the pivot lies in none of the rows and columns.
+use mathlib.Core.Path.{_≡_, subst}
 use native.Mathlib.Omega.{arith}
-use Rattle.walks.proofs.Passes.{improved-none, improved-as, block-down, ready-kept}
+use Rattle.walks.specs.Eliminated.{Block, Improved}
+use Rattle.walks.proofs.Passes.{improved-none, block-down, ready-kept}
 use Rattle.walks.proofs.eliminate.pass.Needs as need
 
 pub loop-s-holds : need.loop-s-holds
@@ -19,5 +21,5 @@ loop-s-again g c =
 
 pub returns : need.returns
 returns g c =
-    let end = c .loop-s .kept .s-end (c .pre .square .0) in
-    improved-as _ _ _ _ _ _ _ _ (λ s t h. (h .0, omega arith, h .2, h .3, h .4)) (λ s t h. (h .0, omega arith, h .2, h .3, h .4)) (c .loop-s .inv)
+    let end : c .loop-s .s ≡ c .args .high = let upto = c .loop-s .kept .s-end (c .pre .square .0) in omega arith in
+    subst (λ j. Improved (g .C·Cost .algebra) (g .C·Cost .value) (c .args .n) (c .args .pivot) (Block (c .args .low) j (c .args .low) (c .args .high)) (c .args .cells .now) (c .loop-s .cells)) end (c .loop-s .inv)

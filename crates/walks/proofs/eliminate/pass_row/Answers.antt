@@ -1,5 +1,5 @@
 -- A row of cells, one after the other; the pivot lies in none of the columns.
-use mathlib.Core.Path.{_≡_, sym, ap, subst}
+use mathlib.Core.Path.{_≡_, sym, subst}
 use native.Mathlib.Omega.{arith}
 use mathlib.Core.Logic.{inl, inr}
 use Prim.Native.Nat.{ℕ, _+_, _<_, _≤_}
@@ -31,13 +31,13 @@ loop-t-again g c =
     let low = c .args .low in
     let Good = Improved (g .C·Cost .algebra) (g .C·Cost .value) (c .args .n) (c .args .pivot) (Block s (s + 1) low (t + 1)) (c .args .cells .now) in
     elim (c .if-t-s .came) [
-      then-t-s w ↦ subst Good (sym (w .cells-is))
-        (block-right _ _ _ _ s (s + 1) low t (t + 1) _ _ _ (c .pre .ready .inside) (omega arith) (omega arith) (λ l u. c .pre .row .1 (omega arith)) (λ l u. c .pre .columns .2 l (omega arith)) (c .loop-t .inv) (w .improve .ensures))
-    | else-t-s w ↦ subst Good (sym (w .cells-is))
-        (improved-as _ _ _ _ (Block s (s + 1) low t) _ _ _ (λ a b h. (h .0, h .1, h .2, omega arith, h .4)) (λ a b h. (h .0, h .1, h .2, lower _ _ _ _ (h .0) (h .1) (h .3) (h .4) (w .if-t-s .left), h .4)) (c .loop-t .inv))
+      | then-t-s w ↦ subst Good (sym (w .cells-is))
+          (block-right _ _ _ _ s (s + 1) low t (t + 1) _ _ _ (c .pre .ready .inside) (omega arith) (omega arith) (λ l u. c .pre .row .1 (omega arith)) (λ l u. c .pre .columns .2 l (omega arith)) (c .loop-t .inv) (w .improve .ensures))
+      | else-t-s w ↦ subst Good (sym (w .cells-is))
+          (improved-as _ _ _ _ (Block s (s + 1) low t) _ _ _ (λ a b h. (h .0, h .1, h .2, omega arith, h .4)) (λ a b h. (h .0, h .1, h .2, lower _ _ _ _ (h .0) (h .1) (h .3) (h .4) (w .if-t-s .left), h .4)) (c .loop-t .inv))
     ]
 
 pub returns : need.returns
 returns g c =
-    let end = c .loop-t .kept .t-end (c .pre .columns .0) in
-    improved-as _ _ _ _ _ _ _ _ (λ s t h. (h .0, h .1, h .2, omega arith, h .4)) (λ s t h. (h .0, h .1, h .2, omega arith, h .4)) (c .loop-t .inv)
+    let end : c .loop-t .t ≡ c .args .high = let upto = c .loop-t .kept .t-end (c .pre .columns .0) in omega arith in
+    subst (λ j. Improved (g .C·Cost .algebra) (g .C·Cost .value) (c .args .n) (c .args .pivot) (Block (c .args .s) (c .args .s + 1) (c .args .low) j) (c .args .cells .now) (c .loop-t .cells)) end (c .loop-t .inv)

@@ -1,6 +1,6 @@
 -- Column by column; the cards that a column is swept by are those at entry.
 use mathlib.Core.Path.{sym, subst}
-use Prim.Native.Nat.{ℕ, _+_}
+use Prim.Native.Nat.{_+_}
 use Rattle.walks.specs.Eliminated.{Calmed, SweptTo}
 use Rattle.walks.proofs.Passes.{kept-none, kept-then, cards-kept, laid-kept}
 use Rattle.walks.proofs.Levels.{swept-none, swept-all}
@@ -25,8 +25,7 @@ pub loop-t-again : need.loop-t-again
 loop-t-again g c =
     let A = g .C·Cost .algebra in
     let value = g .C·Cost .value in
-    let same = cards-kept A value (c .args .n) _ _ (c .loop-t .inv .0) in
-    (
+    let same = cards-kept A value (c .args .n) _ _ (c .loop-t .inv .0) in (
       kept-then _ _ _ _ (c .loop-t .inv .0) (c .sweep .ensures .kept),
       subst (λ card. SweptTo A value (c .args .n) card (c .sweep .last .cells) (c .loop-t .t + 1) (c .loop-t .t + 1)) same (c .sweep .ensures .swept),
     )

@@ -27,8 +27,7 @@ loop-k-again g c =
     let A = g .C·Cost .algebra in
     let value = g .C·Cost .value in
     let next : c .loop-k .k ≡ suc (c .loop-k .k - 1) = omega arith in
-    let to = subst (ThirdTo A value (c .args .n) (cards-in A value (c .args .n) (c .args .cells .now)) (c .loop-k .cells)) next (c .loop-k .inv .1) in
-    (
+    let to = subst (ThirdTo A value (c .args .n) (cards-in A value (c .args .n) (c .args .cells .now)) (c .loop-k .cells)) next (c .loop-k .inv .1) in (
       kept-then _ _ _ _ (c .loop-k .inv .0) (c .pass .ensures .kept),
       third-more (g .C·Cost·met .lawful) _ _ _ (c .pre .laid .sound) _ _ _ (omega arith) (c .pre .calm) to (c .pass .ensures),
     )

@@ -30,7 +30,7 @@ improve-requires g c κs = record {
 pub improve-requires-in-loop-s : need.improve-requires-in-loop-s
 improve-requires-in-loop-s g c κs = record {
   ready = ready-kept _ _ _ _ _ _ _ (λ j. (λ h. absurd (omega arith), λ h. absurd (omega arith))) (c .improve .ensures)
-    (ready-kept _ _ _ _ _ _ _ (λ j. (λ h. cross-away _ _ _ _ _ (c .pre .lower) h .1 refl, λ h. cross-away _ _ _ _ _ (c .pre .lower) h .0 refl)) (c .loop-s .inv) (c .pre .ready));
+      (ready-kept _ _ _ _ _ _ _ (λ j. (λ h. cross-away _ _ _ _ _ (c .pre .lower) h .1 refl, λ h. cross-away _ _ _ _ _ (c .pre .lower) h .0 refl)) (c .loop-s .inv) (c .pre .ready));
   row = (omega arith, λ e. absurd (omega arith));
   column = (c .loop-s-test .taken, λ e. absurd (omega arith));
   apart = λ e. absurd (omega arith);
