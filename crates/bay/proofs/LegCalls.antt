@@ -17,7 +17,8 @@ use Rattle.registers.specs.Meaning.{Meaning, end-causes}
 use Rattle.registers.specs.declared.fault.Code.{Code}
 use Rattle.registers.specs.declared.fault.Layer.the-variants.{Bay}
 use Rattle.bay.specs.Faults.{refused}
-use Rattle.bay.specs.Legs.{most-legs, no-leg, open-leg, struck}
+use Rattle.bay.specs.Leg.{no-leg, open-leg}
+use Rattle.bay.specs.Legs.{most-legs, struck}
 use Rattle.bay.specs.Plain.{Plain, ends, with-legs, book-causes, leg-causes}
 use Rattle.bay.specs.declared.fault.BayFault.{BayFault}
 use Rattle.bay.specs.declared.fault.BayFault.the-variants.{NoLeg}

@@ -1,6 +1,6 @@
 -- What the methods of the legs do to the list that is held, the first `count` of the array: by places of the array, and
 -- at the end as one equation.
-use mathlib.Core.Path.{_≡_, refl, sym, ap, _∙_}
+use mathlib.Core.Path.{_≡_, refl, sym, ap, subst, _∙_}
 use mathlib.Core.List.{List, map}
 use mathlib.Core.Logic.{_≢_, ⊎-elim}
 use Prim.Native.Nat.{ℕ, suc, _+_, _-_, _≤_, _<_}
@@ -11,7 +11,9 @@ use lib.Seq.{length-take-le, getD-take}
 use Rattle.std.proofs.shelf.Edits.{length-removed, getD-removed-below, getD-removed-above}
 use Rattle.std.proofs.shelf.Lists.{same-lists, getD-map, getD-default, getD-set-same, getD-set-other}
 use Rattle.std.proofs.shelf.Tests.{cases-lt, cases-eq}
+use Rattle.bay.specs.declared.legs.Leg.{Leg}
 use Rattle.bay.specs.declared.legs.Legs.{Legs}
+use Rattle.bay.specs.Leg.{Apart, no-leg}
 use Rattle.bay.specs.Legs.{booked, struck}
 
 pub length-booked : (l : Legs) → length (booked l) ≡ l .count
@@ -71,3 +73,12 @@ module _ {X : Type 0} (d : X) where
         (λ lt. below k lt ∙ sym (getD-take n ys k d (omega arith)) ∙ sym (getD-removed-below (take n ys) j d k lt jl))
         (λ le. inside k le (omega arith) ∙ sym (getD-take n ys (k + 1) d (omega arith)) ∙ sym (getD-removed-above (take n ys) j d k le jl))
         (cases-lt k j))
+
+-- a leg with two different ends may be put anywhere
+pub apart-set : (n : ℕ) (legs : List Leg) (i : ℕ) (leg : Leg) → i < length legs → ((k : ℕ) → k < n → (k ≡ i → ⊥) → getD legs k no-leg .from ≡ getD legs k no-leg .to → ⊥) →
+    (leg .from ≡ leg .to → ⊥) → Apart n (set legs i leg)
+apart-set n legs i leg h others this k lt =
+    ⊎-elim
+    (λ e. subst (λ l. l .from ≡ l .to → ⊥) (sym (ap (λ j. getD (set legs i leg) j no-leg) e ∙ getD-set-same legs i leg no-leg h)) this)
+    (λ ne. subst (λ l. l .from ≡ l .to → ⊥) (sym (getD-set-other legs i k leg no-leg ne)) (others k lt ne))
+    (cases-eq k i)

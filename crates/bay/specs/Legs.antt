@@ -2,9 +2,9 @@
 use mathlib.Core.List.{List, _++_, map}
 use Prim.Native.Nat.{ℕ, suc}
 use lib.ListN.{take, drop}
+use Rattle.bay.specs.Leg.{noted}
 use Rattle.bay.specs.declared.legs.Leg.{Leg}
 use Rattle.bay.specs.declared.legs.Legs.{Legs}
-use Rattle.bay.specs.declared.legs.Note.{Note}
 use Rattle.bay.specs.declared.legs.Note.the-variants.{Open}
 
 -- how many legs a bay may have
@@ -14,18 +14,6 @@ most-legs = 32
 -- the legs of a bay, by number
 abbrev pub booked : Legs → List Leg
 booked l = take (l .count) (l .list)
-
--- what is read where there is no leg
-abbrev pub no-leg : Leg
-no-leg = record { from = 0; to = 0; note = Open }
-
--- a leg as it is booked
-abbrev pub open-leg : ℕ → ℕ → Leg
-open-leg a b = record { from = a; to = b; note = Open }
-
--- the leg with another note
-abbrev pub noted : Note → Leg → Leg
-noted note leg = record { from = leg .from; to = leg .to; note = note }
 
 -- every note open
 abbrev pub opened : List Leg → List Leg

@@ -2,6 +2,7 @@
 ghost use mathlib.Core.Path.{_≡_};
 ghost use Prim.Native.Nat.{_≤_};
 ghost use lib.ListN.{length};
+ghost use Rattle.bay.specs.Leg.{Apart};
 use registers::Format;
 
 // A bay has at most so many legs.
@@ -32,4 +33,5 @@ pub struct Legs {
     pub count: usize,
     ghost long: { length list ≡ 32 },
     ghost few: { count ≤ 32 },
+    ghost apart: { Apart count list },
 }

@@ -4,7 +4,8 @@ ghost use mathlib.Core.List.{_++_, [], _∷_};
 ghost use Prim.Native.Nat.{_≤_, _<_};
 ghost use lib.ListN.{length, getD, set};
 ghost use Rattle.std.specs.Options.{Cases};
-ghost use Rattle.bay.specs.Legs.{booked, no-leg, noted, opened, struck, most-legs};
+ghost use Rattle.bay.specs.Leg.{no-leg, noted};
+ghost use Rattle.bay.specs.Legs.{booked, opened, struck, most-legs};
 use crate::legs::Leg;
 use crate::legs::Legs;
 use crate::legs::MOST_LEGS;
@@ -47,7 +48,8 @@ impl Legs {
 
     // One leg more at the end.
     pub fn push(&mut self, leg: Leg)
-        requires { ⌜ length (booked (now self)) < most-legs ⌝ }
+        requires room { ⌜ length (booked (now self)) < most-legs ⌝ }
+        requires apart { ⌜ (leg .from ≡ leg .to → ⊥) ⌝ }
         ensures { λ _. ⌜ booked (now (self .exit)) ≡ booked (now (self .entry)) ++ leg ∷ [] ⌝ }
     {
         self.list[self.count] = leg;

@@ -2,7 +2,7 @@ use native.Mathlib.Omega.{arith}
 use Prim.Native.Nat.{_≤_}
 use mathlib.Core.Path.{_∙_, sym, ap}
 use lib.ListN.{length, take}
-use Rattle.bay.specs.Legs.{noted, no-leg}
+use Rattle.bay.specs.Leg.{noted, no-leg}
 use Rattle.bay.specs.declared.legs.Note.the-variants.{Open}
 use Rattle.bay.proofs.LegSteps.{applied-more, applied-all}
 use Rattle.bay.proofs.legs.Legs.open_all.Needs as need

@@ -1,5 +1,5 @@
 use mathlib.Core.Path.{_≡_}
-use Rattle.bay.specs.Legs.{noted, no-leg}
+use Rattle.bay.specs.Leg.{noted, no-leg}
 use Rattle.bay.specs.declared.legs.Note.the-variants.{Open}
 use Rattle.bay.proofs.LegSteps.{Applied}
 use Rattle.bay.proofs.legs.Legs.open_all.Given as given

@@ -1,8 +1,17 @@
+use Prim.Native.Nat.{_+_, _<_}
 use native.Mathlib.Omega.{arith}
+use lib.ListN.{length-set}
 use mathlib.Core.Path.{_∙_, sym, refl}
-use Rattle.bay.specs.Legs.{no-leg}
-use Rattle.bay.proofs.LegSteps.{length-booked, moved-none, moved-more, moved-all}
+use Rattle.bay.specs.Leg.{no-leg}
+use Rattle.bay.proofs.LegSteps.{apart-set, length-booked, moved-none, moved-more, moved-all}
 use Rattle.bay.proofs.legs.Legs.remove.Needs as need
+
+pub ghost-self : need.ghost-self
+ghost-self c =
+    let legs = c .loop-place .self in
+    let here : c .loop-place .place + 1 < legs .count = omega (arith, c .loop-place .inv .0) in
+    (length-set (legs .list) (c .loop-place .place) _ ∙ legs .long, (legs .few, (
+      apart-set (legs .count) (legs .list) (c .loop-place .place) _ (omega (arith, legs .long, legs .few)) (λ k lt ne. legs .apart k lt) (legs .apart (c .loop-place .place + 1) here), tt)))
 
 pub loop-place-holds : need.loop-place-holds
 loop-place-holds c = (refl, moved-none no-leg (c .args .self .now .list) (c .args .number))

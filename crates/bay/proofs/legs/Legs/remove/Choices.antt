@@ -1,5 +1,5 @@
 use mathlib.Core.Path.{_≡_}
-use Rattle.bay.specs.Legs.{no-leg}
+use Rattle.bay.specs.Leg.{no-leg}
 use Rattle.bay.proofs.LegSteps.{Moved}
 use Rattle.bay.proofs.legs.Legs.remove.Given as given
 

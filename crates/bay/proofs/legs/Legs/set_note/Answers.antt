@@ -3,7 +3,8 @@ use native.Mathlib.Omega.{arith}
 use mathlib.Core.Path.{_∙_, sym, ap}
 use lib.ListN.{set}
 use lib.Seq.{take-set-lt, getD-take}
-use Rattle.bay.specs.Legs.{booked, noted, no-leg}
+use Rattle.bay.specs.Leg.{noted, no-leg}
+use Rattle.bay.specs.Legs.{booked}
 use Rattle.bay.proofs.LegSteps.{length-booked}
 use Rattle.bay.proofs.legs.Legs.set_note.Needs as need
 
