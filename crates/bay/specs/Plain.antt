@@ -30,6 +30,11 @@ pub record Plain (V : Type 0) : Type 0 where
   pub register : Meaning V
   pub legs : List Ends
 
+-- in order: no legs; a table of fewer than n × n cells; fewer cost entries than legs; fewer bytes than rows for the legs
+abbrev pub room-causes : ℕ → ℕ → ℕ → ℕ → ℕ → List (Bool × Code)
+room-causes legs n cells entries bytes =
+    (eqb legs 0, code Bay 25 0) ∷ (ltb cells (n * n), code Bay 15 0) ∷ (ltb entries legs, code Bay 15 1) ∷ (ltb bytes (row-bytes * legs), code Bay 15 2) ∷ []
+
 module _ {V : Type 0} (p : Plain V) where
   -- the plain bay with another register, or with other legs
   abbrev pub with-register : Meaning V → Plain V
@@ -46,11 +51,9 @@ module _ {V : Type 0} (p : Plain V) where
   abbrev pub leg-causes : ℕ → List (Bool × Code)
   leg-causes k = (leb (length (p .legs)) k, code Bay 14 0) ∷ []
 
-  -- why route is refused before it looks at a card: no legs; a table of fewer than n × n cells; fewer cost entries, or rows, than legs
+  -- why route is refused before it looks at a card
   abbrev pub route-causes : ℕ → ℕ → ℕ → List (Bool × Code)
-  route-causes cells costs bytes =
-      (eqb (length (p .legs)) 0, code Bay 25 0) ∷ (ltb cells (p .register .size * p .register .size), code Bay 15 0) ∷
-      (ltb costs (length (p .legs)), code Bay 15 1) ∷ (ltb bytes (row-bytes * length (p .legs)), code Bay 15 2) ∷ []
+  route-causes cells entries bytes = room-causes (length (p .legs)) (p .register .size) cells entries bytes
 
 module _ (A : Algebra) {C : Type 0} (value : C → A .Value) where
   -- What a call makes of the plain bay: a refused call, a show and a route change nothing.

@@ -11,6 +11,7 @@ ghost use Rattle.bay.specs.Leg.{no-leg, open-leg};
 ghost use Rattle.bay.specs.Legs.{booked, opened, struck};
 ghost use Rattle.bay.specs.Plain.{step, book-causes, leg-causes};
 ghost use Rattle.bay.specs.Routing.{RouteAnswer};
+ghost use Rattle.bay.specs.Runs.{RunLaw};
 ghost use Rattle.bay.specs.declared.calls.Call.the-variants.{Enter, Withdraw, Book, Strike};
 use crate::fault::BayFault;
 use crate::fault::BayFaultFromRegister;

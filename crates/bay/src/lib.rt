@@ -5,6 +5,8 @@ mod fault;
 mod judge;
 mod legs;
 mod legs_calls;
+mod routing_call;
+mod running;
 
 pub use bays::Bay;
 pub use calls::Call;

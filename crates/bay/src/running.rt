@@ -1,0 +1,53 @@
+// Calls of a bay given as values, one by one and as a list.
+ghost use mathlib.Core.Path.{_≡_};
+ghost use Prim.Native.Nat.{_*_, _≤_};
+ghost use lib.ListN.{length, take};
+ghost use Rattle.std.specs.Iters.{folded};
+ghost use Rattle.std.specs.Of.Vec.{vec-items};
+ghost use Rattle.std.specs.Results.{Cases};
+ghost use Rattle.bay.specs.Bays.{plain};
+ghost use Rattle.bay.specs.Legs.{booked};
+ghost use Rattle.bay.specs.Plain.{step};
+ghost use Rattle.bay.specs.Routing.{Beyond};
+ghost use Rattle.bay.specs.Runs.{Reserved, Right, RunLaw, chains-step, costs-step, legs-step, legs-after, plain-after, route-notes};
+ghost use Rattle.bay.specs.declared.calls.Call.the-variants.{Route};
+use crate::bays::Bay;
+use crate::calls::Answer;
+use crate::calls::Call;
+use crate::calls::Routes;
+use crate::fault::BayFault;
+use crate::legs::MOST_LEGS;
+use costs::Cost;
+use registers::Register;
+use std::alloc::AllocError;
+use std::alloc::Global;
+use walks::Cell;
+use walks::ROW;
+
+// So many bytes have the rows of all the legs that a bay may have.
+const CHAIN_BYTES: usize = 2112;
+
+impl<C: Cost> Routes<C> {
+    // Room for what a route may write.
+    fn reserve(heap: Global) -> Result<Routes<C>, AllocError>
+        ensures { λ r. ⌜ Cases r (λ v. Reserved v) (λ _. Unit {0}) ⌝ }
+    {
+        let costs = Vec::with_capacity(heap, MOST_LEGS)?;
+        let chains = Vec::with_capacity(heap, CHAIN_BYTES)?;
+        Ok(Routes { costs, chains })
+    }
+
+    // Takes down the costs and rows of the first legs.
+    fn fill(&mut self, legs: usize, costs: &[C], chains: &[u8])
+        requires reserved { ⌜ Reserved (now self) ⌝ }
+        requires few { ⌜ legs ≤ 32 ⌝ }
+        requires costs { ⌜ legs ≤ length (now costs) ⌝ }
+        requires chains { ⌜ 66 * legs ≤ length (now chains) ⌝ }
+        ensures costs { λ _. ⌜ vec-items (now (self .exit) .costs) ≡ take legs (now (costs .entry)) ⌝ }
+        ensures chains { λ _. ⌜ vec-items (now (self .exit) .chains) ≡ take (66 * legs) (now (chains .entry)) ⌝ }
+    {
+        let _ = self.costs.extend_from_slice(&costs[0..legs]);
+        let _ = self.chains.extend_from_slice(&chains[0..ROW * legs]);
+    }
+}
+
