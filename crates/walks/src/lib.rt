@@ -3,6 +3,7 @@ mod cells;
 mod eliminate;
 mod pricing;
 mod rows;
+mod search;
 mod trail;
 
 ghost use Rattle.walks.specs.Cells.{Laid};
@@ -13,5 +14,6 @@ pub use pricing::price;
 pub use rows::ROW;
 pub use rows::write_chain;
 pub use rows::write_no_chain;
+pub use search::solve;
 pub use trail::MOST_FORMATS;
 pub use trail::trace;
