@@ -15,5 +15,6 @@ pub use rows::ROW;
 pub use rows::write_chain;
 pub use rows::write_no_chain;
 pub use search::solve;
+pub use search::write_loop;
 pub use trail::MOST_FORMATS;
 pub use trail::trace;

@@ -12,9 +12,13 @@ ghost use Rattle.walks.specs.Theorems.{Sound};
 ghost use Rattle.walks.specs.Tracing.{Clear};
 ghost use Rattle.walks.specs.Solved.{upto, Beyond, Fresh, Solved, Turns, LoopWritten};
 use crate::cells::Cell;
+use crate::cells::cell_at;
 use crate::eliminate::first_stage;
 use crate::eliminate::second_stage;
 use crate::eliminate::third_stage;
+use crate::rows::write_round;
+use crate::trail::MOST_FORMATS;
+use crate::trail::trace;
 use costs::Cost;
 use registers::Register;
 
@@ -78,4 +82,51 @@ pub fn solve<R: Register>(register: &R, cells: &mut [Cell<R::Cost>]) -> Option<u
 {
     let n = register.size();
     solve_upto(register, cells, n, n)
+}
+
+// A format below `h` such that the card from `h` to it and the least cost back undercut the unit together, where there is one.
+fn way_out<R: Register>(register: &R, cells: &[Cell<R::Cost>], n: usize, h: usize) -> usize
+    requires room { ⌜ n * n ≤ length (now cells) ⌝ }
+    requires few { ⌜ n ≤ 64 ⌝ }
+    requires inside { ⌜ h < n ⌝ }
+    requires near { ⌜ ((v : ℕ) → v < h → Near (Cost·Cost .algebra) n (least-in (Cost·Cost .algebra) (Cost·Cost .value) n (now cells) v h)) ⌝ }
+    requires some { ⌜ ((v : ℕ) × (v < h) × Turns (Cost·Cost .algebra) (Cost·Cost .value) n (standing (meant (Cost·Cost .value) (holds (now register)))) (now cells) h v) ⌝ }
+    ensures { λ r. ⌜ (r < h) × Turns (Cost·Cost .algebra) (Cost·Cost .value) n (standing (meant (Cost·Cost .value) (holds (now (register .entry))))) (now (cells .entry)) h r ⌝ }
+{
+    let unit = R::Cost::unit();
+    for v in 0..h {
+        if let Some(there) = register.card(h, v) {
+            if let Some(back) = cell_at(cells, n, v, h).least {
+                if there.join(back).undercuts(unit) {
+                    return v;
+                }
+            }
+        }
+    }
+    h
+}
+
+// Writes into row 0 of the sheet a loop at `h` that undercuts the unit, where `h` is what `solve` answered. No card leads out
+// of `h` among those up to it, so no closed walk over them undercuts the unit, and they have least costs.
+pub fn write_loop<R: Register>(
+    register: &R,
+    cells: &mut [Cell<R::Cost>],
+    h: usize,
+    ticks: &mut [bool; MOST_FORMATS],
+    chains: &mut [u8],
+)
+    requires room { ⌜ holds (now register) .size * holds (now register) .size ≤ length (now cells) ⌝ }
+    requires found { ⌜ Looked (Cost·Cost .algebra) (standing (meant (Cost·Cost .value) (holds (now register)))) (holds (now register) .size) (Some h) ⌝ }
+    requires clear { ⌜ Clear (now ticks) ⌝ }
+    requires row { ⌜ 66 ≤ length (now chains) ⌝ }
+    ensures clear { λ _. ⌜ Clear (now (ticks .exit)) ⌝ }
+    ensures beyond { λ _. ⌜ Beyond (holds (now (register .entry)) .size * holds (now (register .entry)) .size) (now (cells .entry)) (now (cells .exit)) ⌝ }
+    ensures written { λ _. ⌜ LoopWritten (Cost·Cost .algebra) (standing (meant (Cost·Cost .value) (holds (now (register .entry))))) h (now (chains .entry)) (now (chains .exit)) ⌝ }
+{
+    let n = register.size();
+    let _ = solve_upto(register, cells, n, h);
+    let mut next = [0; MOST_FORMATS];
+    trace(cells, n, h, ticks, &mut next);
+    let from = way_out(register, cells, n, h);
+    write_round(&next, from, h, chains, 0);
 }
