@@ -36,7 +36,7 @@ absent-parts : (f : ℕ) (is js : List ℕ) → Absent f (is ++ js) → Absent f
 absent-parts f [] js a = (tt, a)
 absent-parts f (i ∷ is) js a = let p = absent-parts f is js (a .1) in ((a .0, p .0), p .1)
 
-distinct-front : (is : List ℕ) (m : ℕ) (js : List ℕ) → Distinct (is ++ m ∷ js) → Distinct is × Absent m is
+pub distinct-front : (is : List ℕ) (m : ℕ) (js : List ℕ) → Distinct (is ++ m ∷ js) → Distinct is × Absent m is
 distinct-front [] m js d = (tt, tt)
 distinct-front (i ∷ is) m js d =
     let p = distinct-front is m js (d .1) in

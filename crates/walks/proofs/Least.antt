@@ -40,6 +40,11 @@ module _ {A : Algebra} (L : Lawful A) where
   pub under-at-most : (a b : A .Value) → A .Under a b → AtMost A a b
   under-at-most a b u v = L .not-both a b u v
 
+  -- what is at most a cost undercuts all that this undercuts
+  pub at-most-under : (a b c : A .Value) → AtMost A a b → A .Under b c → A .Under a c
+  at-most-under a b c p u =
+      elim (L .one-of a c) [ inl v ↦ v | inr (inl e) ↦ absurd (p (subst (A .Under b) (sym e) u)) | inr (inr v) ↦ absurd (p (L .trans b c a u v)) ]
+
   pub at-most-joined : (a b c d : A .Value) → AtMost A a b → AtMost A c d → AtMost A (A .join a c) (A .join b d)
   at-most-joined a b c d p q = at-most-trans _ (A .join b c) _ (L .keeps a b c p) (subst₂ (λ x y. AtMost A x y) (L .comm c b) (L .comm d b) (L .keeps c d b q))
 

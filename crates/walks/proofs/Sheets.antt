@@ -14,7 +14,7 @@ use Rattle.costs.specs.Algebra.{Algebra, Lawful}
 use Rattle.walks.specs.Walk.{path, Below, Chain}
 use Rattle.walks.specs.Theorems.{Sound}
 use Rattle.walks.specs.Tracing.{Follows, most-formats}
-use Rattle.walks.specs.Sheet.{most-in-row, row-of, row-at, put-row, Leads}
+use Rattle.walks.specs.Sheet.{most-in-row, row-of, row-at, put-row, Leads, LeadsIn}
 use Rattle.walks.proofs.Follow.{follows-head, follows-same}
 use Rattle.walks.proofs.Growth.{below-at}
 use Rattle.walks.proofs.Runs.{to-runs}
@@ -23,11 +23,11 @@ use Rattle.walks.proofs.Loops.{runs-inside}
 use Rattle.walks.proofs.Cut.{distinct-few}
 
 -- the chain from `from` is followed as far as `here`, and its first i formats stand in the sheet from `at` on
-pub record Reading (next : List ℕ) (goal from : ℕ) (old : List ℕ) (at here i : ℕ) (sheet : List ℕ) : Type 0 where
+pub record Reading (most : ℕ) (next : List ℕ) (goal from : ℕ) (old : List ℕ) (at here i : ℕ) (sheet : List ℕ) : Type 0 where
   pub formats : List ℕ
   pub follows : Follows next goal from formats
   pub below : Below most-formats formats
-  pub few : length formats ≤ most-in-row
+  pub few : length formats ≤ most
   pub inside : i < length formats
   pub left : Follows next goal here (drop i formats)
   pub written : sheet ≡ paste old at formats i
@@ -45,11 +45,11 @@ module _ (next : List ℕ) (goal : ℕ) where
   follows-last v x [] h e = refl
   follows-last v x (f ∷ fs) h e = absurd (h .1 e)
 
-  module _ (from : ℕ) (old : List ℕ) (at : ℕ) where
-    pub reading-none : Leads next goal from → Reading next goal from old at from 0 old
+  module _ (most from : ℕ) (old : List ℕ) (at : ℕ) where
+    pub reading-none : LeadsIn most next goal from → Reading most next goal from old at from 0 old
     reading-none (fs, h, b, l) = record { formats = fs; follows = h; below = b; few = l; inside = follows-some from fs h; left = h; written = paste-none old at fs }
 
-    module _ (here i : ℕ) (sheet : List ℕ) (r : Reading next goal from old at here i sheet) where
+    module _ (here i : ℕ) (sheet : List ℕ) (r : Reading most next goal from old at here i sheet) where
       at-drop : Follows next goal here (getD (r .formats) i 0 ∷ drop (i + 1) (r .formats))
       at-drop = rw (drop-more (r .formats) i 0 (r .inside)) at (r .left)
 
@@ -59,14 +59,14 @@ module _ (next : List ℕ) (goal : ℕ) where
       pub reading-inside : here < most-formats
       reading-inside = rw is-here at (below-at most-formats (r .formats) i (r .inside) (r .below))
 
-      pub reading-goes-on : i < most-in-row
+      pub reading-goes-on : i < most
       reading-goes-on = omega (arith, r .few, r .inside)
 
-      module _ (room : at + most-in-row ≤ length old) where
+      module _ (room : at + most ≤ length old) where
         wrote : set sheet (at + i) here ≡ paste old at (r .formats) (i + 1)
         wrote = ap (λ s. set s (at + i) here) (r .written) ∙ ap (set (paste old at (r .formats) i) (at + i)) (sym is-here) ∙ paste-more old at (r .formats) i 0 (omega (arith, reading-goes-on)) (r .inside)
 
-        pub reading-more : (here ≡ goal → ⊥) → Reading next goal from old at (getD next here 0) (i + 1) (set sheet (at + i) here)
+        pub reading-more : (here ≡ goal → ⊥) → Reading most next goal from old at (getD next here 0) (i + 1) (set sheet (at + i) here)
         reading-more ne =
             let on = follows-on here (getD (r .formats) i 0) (drop (i + 1) (r .formats)) at-drop ne in
             record {
@@ -105,8 +105,17 @@ pub row-written : (old mid new : List ℕ) (at count : ℕ) (fs : List ℕ) → 
     new ≡ take at old ++ (row-of fs ++ drop (at + 66) old)
 row-written old mid new at count fs room few c m n = n ∙ rw (c, m) (framed old at fs room few)
 
-pub leads-few : (next : List ℕ) (goal from : ℕ) → Leads next goal from → (fs : List ℕ) → Follows next goal from fs → length fs ≤ most-in-row
-leads-few next goal from (gs, k, b, l) fs h = omega (arith, ap length (follows-same next goal from gs fs k h))
+-- a format, and then more behind it
+pub paste-front : (old : List ℕ) (at f : ℕ) (fs : List ℕ) → at < length old → paste (set old at f) (at + 1) fs (length fs) ≡ paste old at (f ∷ fs) (length (f ∷ fs))
+paste-front old at f fs room =
+    let zero : at + 0 ≡ at = omega arith in
+    let sum : 1 + length fs ≡ length (f ∷ fs) = omega arith in
+    let one : set old at f ≡ paste old at (f ∷ []) 1 =
+        ap (λ i. set old i f) (sym zero) ∙ ap (λ s. set s (at + 0) f) (paste-none old at (f ∷ [])) ∙ paste-more old at (f ∷ []) 0 0 (omega arith) (omega arith) in
+    ap (λ s. paste s (at + 1) fs (length fs)) one ∙ paste-paste old at (f ∷ []) fs 1 (length fs) refl refl (omega arith) ∙ ap (paste old at (f ∷ fs)) sum
+
+pub leads-few : (most : ℕ) (next : List ℕ) (goal from : ℕ) → LeadsIn most next goal from → (fs : List ℕ) → Follows next goal from fs → length fs ≤ most
+leads-few most next goal from (gs, k, b, l) fs h = omega (arith, ap length (follows-same next goal from gs fs k h))
 
 pub length-row-of : (fs : List ℕ) → length fs ≤ most-in-row → length (row-of fs) ≡ 66
 length-row-of fs few =
@@ -158,11 +167,16 @@ module _ (sheet : List ℕ) (k : ℕ) (row : List ℕ) (room : 66 * k + 66 ≤ l
 pub chain-of-row : (fs : List ℕ) → take (length fs) (drop 1 (row-of fs)) ≡ fs
 chain-of-row fs = take-at fs (replicate (most-in-row - length fs) 255) (length fs) refl
 
--- a chain over the cards of a table can be written into a row
-pub chain-leads : {A : Algebra} → Lawful A → (n : ℕ) (card : ℕ → ℕ → Option (A .Value)) → Sound A n card → n ≤ most-formats → (next : List ℕ) (goal from : ℕ) (ms : List ℕ) →
-    Chain A card (path from ms goal) → Follows next goal from (path from ms goal) → Leads next goal from
-chain-leads L n card sound few next goal from ms (walk, distinct) follows =
+-- a chain over the cards of a table is short
+pub chain-leads-in : {A : Algebra} → Lawful A → (n : ℕ) (card : ℕ → ℕ → Option (A .Value)) → Sound A n card → (most : ℕ) → n ≤ most-formats → n ≤ most → (next : List ℕ) (goal from : ℕ) (ms : List ℕ) →
+    Chain A card (path from ms goal) → Follows next goal from (path from ms goal) → LeadsIn most next goal from
+chain-leads-in L n card sound most few room next goal from ms (walk, distinct) follows =
     let i = runs-inside L card n sound from ms goal _ (to-runs L card from ms goal walk) in
     let below : Below n (path from ms goal) = (i .0, below-join n ms (goal ∷ []) (i .1) (i .2, tt)) in
     let short = distinct-few n (path from ms goal) below distinct in
     (path from ms goal, follows, below-mono n most-formats (path from ms goal) few below, omega arith)
+
+-- so it can be written into a row
+pub chain-leads : {A : Algebra} → Lawful A → (n : ℕ) (card : ℕ → ℕ → Option (A .Value)) → Sound A n card → n ≤ most-formats → (next : List ℕ) (goal from : ℕ) (ms : List ℕ) →
+    Chain A card (path from ms goal) → Follows next goal from (path from ms goal) → Leads next goal from
+chain-leads L n card sound few = chain-leads-in L n card sound most-in-row few (omega arith)

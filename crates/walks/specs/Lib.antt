@@ -5,3 +5,4 @@ pub mod Cells
 pub mod Tracing
 pub mod Sheet
 pub mod Eliminated
+pub mod Solved

@@ -21,6 +21,10 @@ row-at sheet k = take 66 (drop (66 * k) sheet)
 abbrev pub put-row : List ℕ → ℕ → List ℕ → List ℕ
 put-row sheet k row = take (66 * k) sheet ++ (row ++ drop (66 * k + 66) sheet)
 
+-- `next` leads from `from` to the goal, past at most so many formats
+abbrev pub LeadsIn : ℕ → List ℕ → ℕ → ℕ → Type 0
+LeadsIn most next goal from = (fs : List ℕ) × Follows next goal from fs × Below most-formats fs × (length fs ≤ most)
+
 -- `next` leads from `from` to the goal, past no more formats than a row has room for
 abbrev pub Leads : List ℕ → ℕ → ℕ → Type 0
-Leads next goal from = (fs : List ℕ) × Follows next goal from fs × Below most-formats fs × (length fs ≤ most-in-row)
+Leads = LeadsIn most-in-row

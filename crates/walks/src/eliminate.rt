@@ -7,9 +7,10 @@ ghost use Rattle.std.specs.Options.{mapped};
 ghost use Rattle.costs.specs.Algebra.{reach};
 ghost use Rattle.walks.specs.Walk.{LeastOf};
 ghost use Rattle.walks.specs.Theorems.{Either};
-ghost use Rattle.walks.specs.Cells.{Laid, Kept, Each, cell, cards-in};
+ghost use Rattle.walks.specs.Cells.{Laid, Kept, Each, cards-in};
 ghost use Rattle.walks.specs.Eliminated.{Block, Cross, Near, Calmed, Ready, Improved, Closes, FirstDone, SecondDone, ThirdDone, SweptTo, FirstFound};
 use crate::Cell;
+use crate::cells::cell_at;
 use costs::Cost;
 
 // The better of a held cost and the combination of two, where both are there.
@@ -34,16 +35,6 @@ fn better<C: Cost>(n: usize, held: Option<C>, first: Option<C>, second: Option<C
     } else {
         Some(cost)
     }
-}
-
-// The cell of `s` and `t`.
-fn cell_at<C: Cost>(cells: &[Cell<C>], n: usize, s: usize, t: usize) -> Cell<C>
-    requires room { ⌜ n * n ≤ length (now cells) ⌝ }
-    requires small { ⌜ n ≤ reach ⌝ }
-    requires inside { ⌜ (s < n) × (t < n) ⌝ }
-    ensures { λ r. ⌜ r ≡ cell n (now (cells .entry)) s t ⌝ }
-{
-    cells[s * n + t]
 }
 
 // One cell by way of the pivot.

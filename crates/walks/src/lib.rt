@@ -3,6 +3,7 @@ mod cells;
 mod eliminate;
 mod pricing;
 mod rows;
+mod search;
 mod trail;
 
 ghost use Rattle.walks.specs.Cells.{Laid};
@@ -16,5 +17,7 @@ pub use pricing::price;
 pub use rows::ROW;
 pub use rows::write_chain;
 pub use rows::write_no_chain;
+pub use search::solve;
+pub use search::write_loop;
 pub use trail::MOST_FORMATS;
 pub use trail::trace;

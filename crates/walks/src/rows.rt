@@ -1,10 +1,10 @@
 // Rows of a sheet, each with the formats of one chain.
 ghost use mathlib.Core.Path.{_≡_};
-ghost use mathlib.Core.List.{List, []};
-ghost use Prim.Native.Nat.{ℕ, _+_, _-_, _*_, _≤_};
+ghost use mathlib.Core.List.{List, [], _∷_};
+ghost use Prim.Native.Nat.{ℕ, _+_, _-_, _*_, _<_, _≤_};
 ghost use lib.ListN.{length, replicate, set};
 ghost use lib.Seq.{paste};
-ghost use Rattle.walks.specs.Sheet.{Leads, put-row, row-of};
+ghost use Rattle.walks.specs.Sheet.{Leads, LeadsIn, put-row, row-of};
 ghost use Rattle.walks.specs.Tracing.{Follows};
 use crate::trail::MOST_FORMATS;
 
@@ -17,27 +17,28 @@ const MOST_IN_ROW: usize = 65;
 // What stands behind the formats of a row.
 const NO_FORMAT: u8 = 255;
 
-// Writes the formats met by following `next` from `from` to the goal, from `at` on. Answers how many they are.
+// Writes the formats met by following `next` from `from` to the goal, at most `most`, from `at` on. Answers how many they are.
 fn follow(
     next: &[usize; MOST_FORMATS],
     from: usize,
     goal: usize,
     sheet: &mut [u8],
     at: usize,
+    most: usize,
 ) -> usize
-    requires room { ⌜ at + 65 ≤ length (now sheet) ⌝ }
-    requires leads { ⌜ Leads (now next) goal from ⌝ }
+    requires room { ⌜ at + most ≤ length (now sheet) ⌝ }
+    requires leads { ⌜ LeadsIn most (now next) goal from ⌝ }
     ensures { λ r. ⌜ ((fs : List ℕ) → Follows (now (next .entry)) goal from fs → (r ≡ length fs) × (now (sheet .exit) ≡ paste (now (sheet .entry)) at fs (length fs))) ⌝ }
 {
     let mut here = from;
-    for i in 0..MOST_IN_ROW {
+    for i in 0..most {
         sheet[at + i] = here as u8;
         if here == goal {
             return i + 1;
         }
         here = next[here];
     }
-    MOST_IN_ROW
+    most
 }
 
 // Writes `NO_FORMAT` at so many places from `at` on.
@@ -73,9 +74,28 @@ pub fn write_chain(
     ensures written { λ r. ⌜ ((fs : List ℕ) → Follows (now (next .entry)) goal from fs → (r ≡ length fs) × (now (sheet .exit) ≡ put-row (now (sheet .entry)) k (row-of fs))) ⌝ }
 {
     let at = ROW * k;
-    let count = follow(next, from, goal, sheet, at + 1);
+    let count = follow(next, from, goal, sheet, at + 1, MOST_IN_ROW);
     frame(sheet, at, count);
     count
+}
+
+// Writes into row `k` of the sheet the goal, and then the chain met by following `next` from `from` to the goal.
+pub(crate) fn write_round(
+    next: &[usize; MOST_FORMATS],
+    from: usize,
+    goal: usize,
+    sheet: &mut [u8],
+    k: usize,
+)
+    requires room { ⌜ 66 * k + 66 ≤ length (now sheet) ⌝ }
+    requires leads { ⌜ LeadsIn 64 (now next) goal from ⌝ }
+    requires inside { ⌜ goal < 64 ⌝ }
+    ensures written { λ _. ⌜ ((fs : List ℕ) → Follows (now (next .entry)) goal from fs → now (sheet .exit) ≡ put-row (now (sheet .entry)) k (row-of (goal ∷ fs))) ⌝ }
+{
+    let at = ROW * k;
+    sheet[at + 1] = goal as u8;
+    let count = follow(next, from, goal, sheet, at + 2, MOST_FORMATS);
+    frame(sheet, at, count + 1);
 }
 
 // Writes into row `k` of the sheet that there is no chain.

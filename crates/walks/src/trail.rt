@@ -6,10 +6,11 @@ ghost use denote.Ref.{name};
 ghost use lib.ListN.{length, getD, set};
 ghost use Rattle.std.specs.Options.{mapped};
 ghost use Rattle.std.specs.Orderings.{Decides};
-ghost use Rattle.walks.specs.Cells.{Laid, cards-in, cell, least-in};
+ghost use Rattle.walks.specs.Cells.{Laid, cards-in, least-in};
 ghost use Rattle.walks.specs.Walk.{Gains, Least};
 ghost use Rattle.walks.specs.Tracing.{Clear, Full, Growing, Ready, Scanned, TightIn, Traced, Wider, to-goal};
 use crate::cells::Cell;
+use crate::cells::cell_at;
 use costs::Cost;
 
 // A table has at most so many formats.
@@ -54,16 +55,6 @@ impl Drop for Ticks<'_> {
     }
 }
 
-// The cell of `from` and `to`.
-fn read<C: Cost>(cells: &[Cell<C>], n: usize, from: usize, to: usize) -> Cell<C>
-    requires room { ⌜ n * n ≤ length (now cells) ⌝ }
-    requires few { ⌜ n ≤ 64 ⌝ }
-    requires inside { ⌜ from < n ⌝ ∗ ⌜ to < n ⌝ }
-    ensures { λ r. ⌜ r ≡ cell n (now (cells .entry)) from to ⌝ }
-{
-    cells[from * n + to]
-}
-
 // The least cost from `from` to the goal, the unit at the goal itself.
 fn rest<C: Cost>(cells: &[Cell<C>], n: usize, goal: usize, from: usize) -> Option<C>
     requires ready { ⌜ Ready (C·Cost .algebra) (C·Cost .value) n (now cells) goal ⌝ }
@@ -73,7 +64,7 @@ fn rest<C: Cost>(cells: &[Cell<C>], n: usize, goal: usize, from: usize) -> Optio
     if from == goal {
         Some(C::unit())
     } else {
-        let cell = read(cells, n, from, goal);
+        let cell = cell_at(cells, n, from, goal);
         cell.least
     }
 }
@@ -95,7 +86,7 @@ fn tight<C: Cost>(cells: &[Cell<C>], n: usize, goal: usize, from: usize, to: usi
     if from == to {
         return false;
     }
-    let cell = read(cells, n, from, to);
+    let cell = cell_at(cells, n, from, to);
     let Some(card) = cell.card else {
         return false;
     };

@@ -6,5 +6,5 @@ pub returns : need.returns
 returns c = record {
   written = λ fs h.
       let (e, p) = c .follow-count .ensures fs h in
-      (e, row-written (c .args .sheet .now) _ _ (66 * c .args .k) _ fs (c .pre .room) (leads-few _ _ _ (c .pre .leads) fs h) e p (c .frame .ensures));
+      (e, row-written (c .args .sheet .now) _ _ (66 * c .args .k) _ fs (c .pre .room) (leads-few _ _ _ _ (c .pre .leads) fs h) e p (c .frame .ensures));
 }

@@ -6,7 +6,7 @@ use Prim.Native.Nat.{_*_, _+_, _<_}
 use Rattle.std.proofs.shelf.Lists.{getD-default}
 use Rattle.std.proofs.shelf.Bits.{mul-le}
 use Rattle.walks.proofs.Passes.{place-lt}
-use Rattle.walks.proofs.eliminate.cell_at.Needs as need
+use Rattle.walks.proofs.cells.cell_at.Needs as need
 
 pub mul-result : need.mul-result
 mul-result g c = omega (arith, place-lt _ _ _ (c .pre .inside .0) (c .pre .inside .1), mul-le _ _ _ _ (c .pre .small) (c .pre .small))
