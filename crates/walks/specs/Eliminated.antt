@@ -34,6 +34,11 @@ module _ (A : Algebra) where
   abbrev pub Calmed : (ℕ → ℕ → Option (A .Value)) → ℕ → Type 0
   Calmed card h = (k : ℕ) → k < h → GainsAt A card k → ⊥
 
+  -- h is the lowest format at which a closed walk through lower formats undercuts the unit, or there is none below n
+  abbrev pub Looked : (ℕ → ℕ → Option (A .Value)) → ℕ → Option ℕ → Type 0
+  Looked card n (Some h) = (h < n) × GainsAt A card h × Calmed card h
+  Looked card n None = Calmed card n
+
 module _ (A : Algebra) {C : Type 0} (value : C → A .Value) (n : ℕ) where
   -- a pass by way of k can combine: the table has its cells, and the costs to and from k are near
   pub record Ready (k : ℕ) (cells : List (Cell C)) : Type 0 where
@@ -72,5 +77,5 @@ module _ (A : Algebra) {C : Type 0} (value : C → A .Value) (n : ℕ) where
 
     -- the first format at which a closed walk through lower ones undercuts the unit; or there is none, and each cell has its cost
     abbrev pub FirstFound : Option ℕ → Type 0
-    FirstFound (Some h) = (h < n) × GainsAt A card h × Calmed A card h
-    FirstFound None = Calmed A card n × FirstDone
+    FirstFound (Some h) = Looked A card n (Some h)
+    FirstFound None = Looked A card n None × FirstDone

@@ -5,7 +5,10 @@ use native.Mathlib.Omega.{arith}
 use borrow.Author.Count.{below-more}
 use Rattle.std.specs.Options.{mapped}
 use Rattle.walks.specs.declared.cells.Cell.{Cell}
-use Rattle.walks.proofs.Passes.{near-join, closes-none, closes-then, closes-else}
+use Prim.Native.Nat.{_+_, _*_, _≤_}
+use Rattle.costs.specs.Algebra.{reach}
+use Rattle.walks.proofs.Least.{none-joined}
+use Rattle.walks.proofs.Passes.{held-closes, held-open}
 use Rattle.walks.proofs.Turning.{card-near}
 use Rattle.walks.proofs.search.way_out.Needs as need
 use Rattle.walks.proofs.search.way_out.Needs.{in-Some·in-Some-least·else-undercuts, in-Some·in-rest-least, in-rest}
@@ -20,8 +23,9 @@ returns-then-undercuts g c =
     let one = sym (c .in-Some .ensures tt .value) in
     let two = sym (ap read (c .cell-at .ensures)) ∙ ap (mapped (g .Cost·Cost .value)) (c .in-Some-least .is) in
     let near = card-near L (c .args .n) _ _ (c .pre .few) one (c .in-Some .ensures tt .admitted) in
-    let sum = near-join (g .Cost·Cost .algebra) _ _ _ _ _ _ (omega arith) near (c .pre .near (c .loop-v .v) (c .loop-v-test .taken)) one two (c .join .ensures) in
-    (c .loop-v-test .taken, closes-then L _ _ _ _ _ _ one two sum (c .unit-unit .ensures) (c .undercuts .ensures .yes (c .if-undercuts .taken)))
+    let small : 2 * (c .args .n + 1) ≤ reach = omega (arith, c .pre .few) in
+    (c .loop-v-test .taken,
+     held-closes L (c .args .n) small _ _ near (c .pre .near (c .loop-v .v) (c .loop-v-test .taken)) _ _ _ one two (c .join .ensures) _ (c .unit-unit .ensures) (c .undercuts .ensures .yes (c .if-undercuts .taken)))
 
 pub loop-v-again : need.loop-v-again
 loop-v-again g c =
@@ -33,10 +37,10 @@ loop-v-again g c =
         let one = sym (w .in-Some .ensures tt .value) in
         let two = sym (ap read (w .cell-at .ensures)) ∙ ap means (w .in-Some-least .is) in
         let near = card-near L (c .args .n) _ _ (c .pre .few) one (w .in-Some .ensures tt .admitted) in
-        let sum = near-join (g .Cost·Cost .algebra) _ _ _ _ _ _ (omega arith) near (c .pre .near (c .loop-v .v) (c .loop-v-test .taken)) one two (w .join .ensures) in
-        closes-else L _ _ _ _ _ _ one two sum (c .unit-unit .ensures) (w .undercuts .ensures .never (w .if-undercuts .left))
-    | in-Some·in-rest-least w ↦ closes-none L _ _ (inr (sym (ap read (w .cell-at .ensures)) ∙ ap means (w .in-rest-least .is)))
-    | in-rest w ↦ closes-none L _ _ (inl (sym (w .in-rest .ensures tt .value))) ])
+        let small : 2 * (c .args .n + 1) ≤ reach = omega (arith, c .pre .few) in
+        held-open L (c .args .n) small _ _ near (c .pre .near (c .loop-v .v) (c .loop-v-test .taken)) _ _ _ one two (w .join .ensures) _ (c .unit-unit .ensures) (w .undercuts .ensures .never (w .if-undercuts .left))
+    | in-Some·in-rest-least w ↦ λ closes. none-joined L _ _ _ (inr (sym (ap read (w .cell-at .ensures)) ∙ ap means (w .in-rest-least .is))) (closes .1)
+    | in-rest w ↦ λ closes. none-joined L _ _ _ (inl (sym (w .in-rest .ensures tt .value))) (closes .1) ])
 
 pub returns : need.returns
 returns g c = let (v, l, turns) = c .pre .some in absurd (c .loop-v .inv v (omega arith) turns)
