@@ -1,1 +1,3 @@
 pub mod HouseCards
+pub mod Meanings
+pub mod Bars

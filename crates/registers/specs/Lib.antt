@@ -1,3 +1,4 @@
 pub mod Fault
 pub mod Meaning
 pub mod House
+pub mod Bar

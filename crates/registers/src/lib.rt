@@ -1,4 +1,5 @@
 // Registers: which converter cards stand, behind one trait. The layers above are proved over a register's meaning.
+mod bar;
 mod fault;
 mod house;
 mod judge;
@@ -9,6 +10,8 @@ ghost use Prim.Native.Nat.{_≤_};
 ghost use Rattle.std.specs.Options.{mapped, Cases};
 ghost use Rattle.registers.specs.Fault.{first-cause, refusal, after};
 ghost use Rattle.registers.specs.Meaning.{Meaning, meant, most-formats, standing, entered, withdrawn, enter-causes, withdraw-causes};
+pub use bar::Bar;
+pub use bar::BarRegister;
 use costs::Cost;
 pub use fault::Code;
 pub use fault::Layer;
