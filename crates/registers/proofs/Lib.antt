@@ -1,3 +1,5 @@
 pub mod HouseCards
 pub mod Meanings
 pub mod Bars
+pub mod Totals
+pub mod Matrices

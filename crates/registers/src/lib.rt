@@ -3,6 +3,8 @@ mod bar;
 mod fault;
 mod house;
 mod judge;
+mod lent;
+mod matrix;
 
 ghost use mathlib.Core.Path.{_≡_};
 ghost use mathlib.Core.Bool.{true};
@@ -18,6 +20,14 @@ pub use fault::Layer;
 pub use fault::RegisterFault;
 pub use house::HouseRegister;
 pub use house::HouseTable;
+pub use matrix::Matrix;
+pub use matrix::MatrixRegister;
+
+// A register has at least so many formats.
+pub const LEAST_FORMATS: usize = 2;
+
+// A register has at most so many formats.
+pub const MOST_FORMATS: usize = 64;
 
 // A format, by its number. A register has those below its size.
 pub type Format = usize;
