@@ -3,3 +3,4 @@ pub mod Meanings
 pub mod Bars
 pub mod Totals
 pub mod Matrices
+pub mod Listed

@@ -36,10 +36,10 @@ possible-parts n a b e =
 pub place-below : (n a b p : ℕ) → a < n → b < n → n * n ≤ p → a * n + b < p
 place-below n a b p ha hb le = omega (arith, mul-add-lt a n b n ha hb)
 
-place-row : (n a b c d : ℕ) → b < n → d < n → a * n + b ≡ c * n + d → a ≡ c
+pub place-row : (n a b c d : ℕ) → b < n → d < n → a * n + b ≡ c * n + d → a ≡ c
 place-row n a b c d hb hd e = sym (div-mul-add a n b hb) ∙ ap (λ p. p / n) e ∙ div-mul-add c n d hd
 
-place-column : (n a b c d : ℕ) → b < n → d < n → a * n + b ≡ c * n + d → b ≡ d
+pub place-column : (n a b c d : ℕ) → b < n → d < n → a * n + b ≡ c * n + d → b ≡ d
 place-column n a b c d hb hd e = sym (mod-mul-add a n b hb) ∙ ap (λ p. p % n) e ∙ mod-mul-add c n d hd
 
 module _ {C : Type 0} (admits : C → Bool) (n : ℕ) (places : List (Option C)) (fits : matrix-fits n (length places) ≡ true) where

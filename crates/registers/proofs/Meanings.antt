@@ -1,12 +1,12 @@
 -- Meanings that hold the same are equal, and what `put` leaves at a pair.
-use mathlib.Core.Path.{_≡_, refl, sym, ap, _∙_}
+use mathlib.Core.Path.{_≡_, refl, sym, ap, subst, _∙_}
 use mathlib.Core.Bool.{Bool, true, false, not, _&&_, cond}
-use mathlib.Core.List.{[], _∷_}
+use mathlib.Core.List.{List, [], _∷_, _++_}
 use Prim.Native.Nat.{ℕ, _+_, _-_, _<_}
 use native.Mathlib.Omega.{arith}
 use lib.Dec.{eqb, ltb}
 use Rattle.std.specs.Options.{mapped, isSome}
-use Rattle.std.proofs.shelf.Tests.{false≢true, ltb-true, eqb-false, lt-ltb, ne-eqb}
+use Rattle.std.proofs.shelf.Tests.{false≢true, ltb-true, eqb-false, lt-ltb, ne-eqb, eq-eqb}
 use Rattle.std.specs.declared.option.Option.{Option}
 use Rattle.std.specs.declared.option.Option.the-variants.{Some, None}
 use Rattle.std.specs.Results.{isErr}
@@ -44,6 +44,22 @@ good-ends n a b e = by-tests (ltb a n) (ltb b n) (eqb a b) refl refl refl e
     by-tests true false z ex ey ez h = let z : _≡_ {A = ℕ} 0 1 = cc in absurd (omega arith)
     by-tests false y z ex ey ez h = let z : _≡_ {A = ℕ} 0 1 = cc in absurd (omega arith)
 
+-- ends that are refused are so before any other cause
+ends-refused : (n k a b : ℕ) (f : Code) (rest : List (Bool × Code)) → k ≡ n → Some f ≡ first-cause (end-causes k a b) → Some f ≡ first-cause (end-causes n a b ++ rest)
+ends-refused n k a b f rest size e = by-tests (ltb a n) (ltb b n) (eqb a b) (subst (λ j. Some f ≡ first-cause (end-causes j a b)) size e)
+  where
+    by-tests : (x y z : Bool) → Some f ≡ first-cause ((not x, code Register 11 0) ∷ (not y, code Register 11 1) ∷ (z, code Register 12 1) ∷ []) → Some f ≡ first-cause ((not x, code Register 11 0) ∷ (not y, code Register 11 1) ∷ (z, code Register 12 1) ∷ rest)
+    by-tests true true false h = let z : _≡_ {A = ℕ} 0 1 = cc in absurd (omega arith)
+    by-tests true true true h = h
+    by-tests true false z h = h
+    by-tests false y z h = h
+
+pub enter-ends-refused : {V : Type 0} (m : Meaning V) (k a b : ℕ) (admitted : Bool) (f : Code) → k ≡ m .size → Some f ≡ first-cause (end-causes k a b) → Some f ≡ first-cause (enter-causes m a b admitted)
+enter-ends-refused m k a b admitted f size e = ends-refused (m .size) k a b f ((not admitted, code Register 13 2) ∷ (m .sealed a b, code Register 21 0) ∷ (not (isSome (standing m a b)) && eqb (m .free) 0, code Register 23 0) ∷ []) size e
+
+pub withdraw-ends-refused : {V : Type 0} (m : Meaning V) (k a b : ℕ) (f : Code) → k ≡ m .size → Some f ≡ first-cause (end-causes k a b) → Some f ≡ first-cause (withdraw-causes m a b)
+withdraw-ends-refused m k a b f size e = ends-refused (m .size) k a b f ((m .sealed a b, code Register 21 0) ∷ (not (isSome (standing m a b)), code Register 22 0) ∷ []) size e
+
 pub possible-ends : (n a b : ℕ) → a < n → b < n → (a ≡ b → ⊥) → (ltb a n && (ltb b n && not (eqb a b))) ≡ true
 possible-ends n a b ha hb ne = rw (lt-ltb a n ha, lt-ltb b n hb, ne-eqb a b ne)
 
@@ -51,6 +67,9 @@ possible-ends n a b ha hb ne = rw (lt-ltb a n ha, lt-ltb b n hb, ne-eqb a b ne)
 module _ {C V : Type 0} (v : C → V) (m k : Meaning C) (a b : ℕ) (ends : first-cause (end-causes (m .size) a b) ≡ None) where
   is-pair : pair (meant v m) a b ≡ true
   is-pair = let h = good-ends (m .size) a b ends in possible-ends (m .size) a b (h .0) (h .1) (h .2)
+
+  pub standing-is : standing (meant v m) a b ≡ mapped v (m .cards a b)
+  standing-is = rw is-pair
 
   pub stands : isSome (standing (meant v m) a b) ≡ isSome (m .cards a b)
   stands = rw is-pair (isSome-mapped v (m .cards a b))
@@ -64,6 +83,11 @@ module _ {C V : Type 0} (v : C → V) (m k : Meaning C) (a b : ℕ) (ends : firs
       by-test : (t : Bool) → isSome (m .cards a b) ≡ t → (not t && eqb (m .free) 0) ≡ false
       by-test true e = refl
       by-test false e = ne-eqb (m .free) 0 (room e)
+
+  pub enter-full : m .sealed a b ≡ false → isSome (m .cards a b) ≡ false → m .free ≡ 0 → Some (code Register 23 0) ≡ first-cause (enter-causes (meant v m) a b true)
+  enter-full unsealed new none =
+      let h = good-ends (m .size) a b ends in
+      rw (lt-ltb a (m .size) (h .0), lt-ltb b (m .size) (h .1), ne-eqb a b (h .2), unsealed, isSome-mapped v (m .cards a b), new, eq-eqb (m .free) 0 none)
 
   pub withdraw-granted : m .sealed a b ≡ false → isSome (m .cards a b) ≡ true → None ≡ first-cause (withdraw-causes (meant v m) a b)
   withdraw-granted unsealed held =

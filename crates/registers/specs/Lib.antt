@@ -4,3 +4,4 @@ pub mod House
 pub mod Bar
 pub mod Lent
 pub mod Matrix
+pub mod List

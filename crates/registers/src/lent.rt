@@ -1,5 +1,9 @@
 // What the registers in lent memory share.
 ghost use mathlib.Core.Path.{_≡_};
+ghost use mathlib.Core.List.{_++_};
+ghost use Prim.Native.Nat.{_≤_};
+ghost use lib.ListN.{length, drop, replicate};
+ghost use Rattle.std.specs.declared.option.Option.the-variants.{None};
 ghost use Rattle.registers.specs.Lent.{size-fits, nearest-size, readable};
 use crate::LEAST_FORMATS;
 use crate::MOST_FORMATS;
@@ -26,5 +30,15 @@ pub fn readable_cost<C: Cost>(held: Option<C>) -> Option<C>
     match held {
         Some(cost) if cost.admitted() => Some(cost),
         _ => None,
+    }
+}
+
+// Clears the first places of lent memory.
+pub fn clear<T: Copy>(memory: &mut [Option<T>], count: usize)
+    requires { ⌜ count ≤ length (now memory) ⌝ }
+    ensures { λ _. ⌜ now (memory .exit) ≡ replicate count None ++ drop count (now (memory .entry)) ⌝ }
+{
+    for i in 0..count {
+        memory[i] = None;
     }
 }

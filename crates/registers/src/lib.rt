@@ -4,6 +4,7 @@ mod fault;
 mod house;
 mod judge;
 mod lent;
+mod list;
 mod matrix;
 
 ghost use mathlib.Core.Path.{_≡_};
@@ -20,6 +21,10 @@ pub use fault::Layer;
 pub use fault::RegisterFault;
 pub use house::HouseRegister;
 pub use house::HouseTable;
+pub use list::Entry;
+pub use list::List;
+pub use list::ListRegister;
+pub use list::MOST_ENTRIES;
 pub use matrix::Matrix;
 pub use matrix::MatrixRegister;
 

@@ -14,6 +14,7 @@ use crate::Format;
 use crate::Register;
 use crate::RegisterFault;
 use crate::judge::judge_ends;
+use crate::lent::clear;
 use crate::lent::nearest_size;
 use crate::lent::readable_cost;
 use crate::lent::size_fits;
@@ -41,16 +42,6 @@ fn cost_at<C: Cost>(places: &[Option<C>], place: usize) -> Option<C>
 {
     let held = places[place];
     readable_cost(held)
-}
-
-// Clears the first places.
-fn clear<C: Cost>(places: &mut [Option<C>], count: usize)
-    requires { ⌜ count ≤ length (now places) ⌝ }
-    ensures { λ _. ⌜ now (places .exit) ≡ replicate count None ++ drop count (now (places .entry)) ⌝ }
-{
-    for place in 0..count {
-        places[place] = None;
-    }
 }
 
 impl<'a, C: Cost> Matrix<'a, C> {

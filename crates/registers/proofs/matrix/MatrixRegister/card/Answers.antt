@@ -5,4 +5,4 @@ use Rattle.registers.proofs.matrix.MatrixRegister.card.Needs as need
 pub cost-at-requires : need.cost-at-requires
 cost-at-requires g c κs =
     let judged = not-refused (c .judge-ends .result) _ (c .if-is-err .ensures tt .value) (c .judge-ends .ensures) in
-    pair-below (g .C·Cost .value) (λ x. g .C·Cost .algebra .admits (g .C·Cost .value x)) _ _ _ _ _ (c .nearest-size .ensures) judged (c .if-not-matrix-fits .ensures tt)
+    pair-below (g .C·Cost .value) (λ x. g .C·Cost .algebra .admits (g .C·Cost .value x)) (c .args .self .now .n) (c .args .self .now .places .now) (c .args .from) (c .args .to) _ (c .nearest-size .ensures) judged (c .if-not-matrix-fits .ensures tt)
