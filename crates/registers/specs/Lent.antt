@@ -5,7 +5,12 @@ use lib.Dec.{eqb, ltb, leb}
 use Rattle.std.specs.Options.{isSome}
 use Rattle.std.specs.declared.option.Option.{Option}
 use Rattle.std.specs.declared.option.Option.the-variants.{Some, None}
+use Rattle.costs.specs.Algebra.{Algebra}
 use Rattle.registers.specs.Meaning.{Meaning, most-formats}
+
+-- whether a card may have a held cost, by what the cost means
+abbrev pub admitted-by : {C : Type 0} (A : Algebra) → (C → A .Value) → C → Bool
+admitted-by A value x = A .admits (value x)
 
 -- a register can have n formats
 abbrev pub size-fits : ℕ → Bool

@@ -9,12 +9,14 @@ use lib.ListN.{length, getD, take, replicate}
 use Rattle.std.specs.Options.{isSome}
 use Rattle.std.specs.declared.option.Option.{Option}
 use Rattle.std.specs.declared.option.Option.the-variants.{Some, None}
+use Rattle.costs.specs.Algebra.{Algebra}
 use Rattle.registers.specs.Fault.{code}
 use Rattle.registers.specs.declared.fault.Code.{Code}
 use Rattle.registers.specs.declared.fault.Layer.the-variants.{Register}
 use Rattle.registers.specs.declared.list.Entry.{Entry}
-use Rattle.registers.specs.Meaning.{Meaning, most-formats}
-use Rattle.registers.specs.Lent.{size-fits, nearest-size, possible, how-many}
+use Rattle.registers.specs.declared.list.List.{List as ListRegister}
+use Rattle.registers.specs.Meaning.{Meaning, meant, most-formats}
+use Rattle.registers.specs.Lent.{admitted-by, size-fits, nearest-size, possible, how-many}
 
 -- as many entries as a register of the most formats has pairs
 abbrev pub most-entries : ℕ
@@ -72,6 +74,10 @@ module _ {C : Type 0} (admits : C → Bool) (n : ℕ) where
     sealed = λ a b. not (list-fits n (length es));
     free = cond (list-fits n (length es)) (length es - how-many n (list-card es)) 0;
   }
+
+-- what the register l holds, by what its costs mean
+abbrev pub list-means : {C : Type 0} (A : Algebra) → (C → A .Value) → ListRegister C → Meaning (A .Value)
+list-means A value l = meant value (listed (admitted-by A value) (l .n) (l .entries .now))
 
 -- the memory once a list is made in it: every entry is cleared, and where it will not do none is touched
 abbrev pub list-cleared : {C : Type 0} → ℕ → List (Option (Entry C)) → List (Option (Entry C))

@@ -6,11 +6,13 @@ use lib.Dec.{leb}
 use lib.ListN.{length, getD, drop, replicate}
 use Rattle.std.specs.declared.option.Option.{Option}
 use Rattle.std.specs.declared.option.Option.the-variants.{None}
+use Rattle.costs.specs.Algebra.{Algebra}
 use Rattle.registers.specs.Fault.{code}
 use Rattle.registers.specs.declared.fault.Code.{Code}
 use Rattle.registers.specs.declared.fault.Layer.the-variants.{Register}
-use Rattle.registers.specs.Meaning.{Meaning}
-use Rattle.registers.specs.Lent.{size-fits, nearest-size, possible, how-many, readable}
+use Rattle.registers.specs.declared.matrix.Matrix.{Matrix}
+use Rattle.registers.specs.Meaning.{Meaning, meant}
+use Rattle.registers.specs.Lent.{admitted-by, size-fits, nearest-size, possible, how-many, readable}
 
 -- so many places will do for n formats
 abbrev pub matrix-fits : ℕ → ℕ → Bool
@@ -33,6 +35,10 @@ module _ {C : Type 0} (admits : C → Bool) where
     sealed = λ a b. not (matrix-fits n (length places));
     free = cond (matrix-fits n (length places)) (n * (n - 1) - how-many n (matrix-card n places)) 0;
   }
+
+-- what the register m holds, by what its costs mean
+abbrev pub matrix-means : {C : Type 0} (A : Algebra) → (C → A .Value) → Matrix C → Meaning (A .Value)
+matrix-means A value m = meant value (matrix (admitted-by A value) (m .n) (m .places .now))
 
 -- the memory once a matrix is made in it: the places that it uses are cleared, and where it will not do none is touched
 abbrev pub matrix-cleared : {C : Type 0} → ℕ → List (Option C) → List (Option C)

@@ -4,7 +4,7 @@ ghost use mathlib.Core.List.{_++_};
 ghost use Prim.Native.Nat.{_≤_};
 ghost use lib.ListN.{length, drop, replicate};
 ghost use Rattle.std.specs.declared.option.Option.the-variants.{None};
-ghost use Rattle.registers.specs.Lent.{size-fits, nearest-size, readable};
+ghost use Rattle.registers.specs.Lent.{admitted-by, size-fits, nearest-size, readable};
 use crate::LEAST_FORMATS;
 use crate::MOST_FORMATS;
 use costs::Cost;
@@ -25,7 +25,7 @@ pub fn nearest_size(n: usize) -> usize
 
 // A held cost, where a card may have it.
 pub fn readable_cost<C: Cost>(held: Option<C>) -> Option<C>
-    ensures { λ r. ⌜ r ≡ readable (λ x. C·Cost .algebra .admits (C·Cost .value x)) held ⌝ }
+    ensures { λ r. ⌜ r ≡ readable (admitted-by (C·Cost .algebra) (C·Cost .value)) held ⌝ }
 {
     match held {
         Some(cost) if cost.admitted() => Some(cost),

@@ -7,9 +7,9 @@ ghost use denote.Ref.{now, name};
 ghost use Rattle.std.specs.Options.{Cases};
 ghost use Rattle.std.specs.declared.option.Option.the-variants.{Some, None};
 ghost use Rattle.registers.specs.Fault.{first-cause, refusal, after};
-ghost use Rattle.registers.specs.Meaning.{meant, entered, withdrawn, enter-causes, withdraw-causes};
-ghost use Rattle.registers.specs.Lent.{begun, possible, how-many};
-ghost use Rattle.registers.specs.List.{entries-fit, list-fits, list-causes, live, cost-for, first-cost, without, listed, list-cleared, Free, Found, Writable, Full};
+ghost use Rattle.registers.specs.Meaning.{entered, withdrawn, enter-causes, withdraw-causes};
+ghost use Rattle.registers.specs.Lent.{admitted-by, begun, possible, how-many};
+ghost use Rattle.registers.specs.List.{entries-fit, list-fits, list-causes, live, cost-for, first-cost, without, listed, list-means, list-cleared, Free, Found, Writable, Full};
 use crate::Format;
 use crate::MOST_FORMATS;
 use crate::Register;
@@ -65,7 +65,7 @@ fn is_possible(n: usize, from: Format, to: Format) -> bool
 
 // The entry, where it can hold a card.
 fn live_entry<C: Cost>(n: usize, held: Option<Entry<C>>) -> Option<Entry<C>>
-    ensures { λ r. ⌜ r ≡ live (λ x. C·Cost .algebra .admits (C·Cost .value x)) n held ⌝ }
+    ensures { λ r. ⌜ r ≡ live (admitted-by (C·Cost .algebra) (C·Cost .value)) n held ⌝ }
 {
     match held {
         Some(entry) if is_possible(n, entry.from, entry.to) && entry.cost.admitted() => Some(entry),
@@ -75,7 +75,7 @@ fn live_entry<C: Cost>(n: usize, held: Option<Entry<C>>) -> Option<Entry<C>>
 
 // The cost that an entry has for a pair.
 fn cost_for_pair<C: Cost>(n: usize, held: Option<Entry<C>>, from: Format, to: Format) -> Option<C>
-    ensures { λ r. ⌜ r ≡ cost-for (λ x. C·Cost .algebra .admits (C·Cost .value x)) n held from to ⌝ }
+    ensures { λ r. ⌜ r ≡ cost-for (admitted-by (C·Cost .algebra) (C·Cost .value)) n held from to ⌝ }
 {
     match live_entry(n, held) {
         Some(entry) if entry.from == from && entry.to == to => Some(entry.cost),
@@ -90,7 +90,7 @@ fn entry_for<C: Cost>(
     from: Format,
     to: Format,
 ) -> Option<usize>
-    ensures { λ r. ⌜ Cases r (first-cost (λ x. C·Cost .algebra .admits (C·Cost .value x)) n (now (entries .entry)) from to ≡ None) (λ i. Found (λ x. C·Cost .algebra .admits (C·Cost .value x)) n (now (entries .entry)) from to i) ⌝ }
+    ensures { λ r. ⌜ Cases r (first-cost (admitted-by (C·Cost .algebra) (C·Cost .value)) n (now (entries .entry)) from to ≡ None) (λ i. Found (admitted-by (C·Cost .algebra) (C·Cost .value)) n (now (entries .entry)) from to i) ⌝ }
 {
     for i in 0..entries.len() {
         let held = entries[i];
@@ -108,7 +108,7 @@ fn first_cost_for<C: Cost>(
     from: Format,
     to: Format,
 ) -> Option<C>
-    ensures value { λ r. ⌜ r ≡ first-cost (λ x. C·Cost .algebra .admits (C·Cost .value x)) n (now (entries .entry)) from to ⌝ }
+    ensures value { λ r. ⌜ r ≡ first-cost (admitted-by (C·Cost .algebra) (C·Cost .value)) n (now (entries .entry)) from to ⌝ }
     ensures admitted { λ r. ⌜ Cases r (Unit {0}) (λ x. C·Cost .algebra .admits (C·Cost .value x) ≡ true) ⌝ }
 {
     match entry_for(n, entries, from, to) {
@@ -123,7 +123,7 @@ fn first_cost_for<C: Cost>(
 // The first free entry. Memory that the list did not write can have two entries for a pair: then the later one is free.
 fn free_entry<C: Cost>(n: usize, entries: &[Option<Entry<C>>]) -> Option<usize>
     requires { ⌜ n ≤ 64 ⌝ }
-    ensures { λ r. ⌜ Cases r (how-many n (first-cost (λ x. C·Cost .algebra .admits (C·Cost .value x)) n (now (entries .entry))) ≡ length (now (entries .entry))) (λ i. (i < length (now (entries .entry))) × Free (λ x. C·Cost .algebra .admits (C·Cost .value x)) n (now (entries .entry)) i) ⌝ }
+    ensures { λ r. ⌜ Cases r (how-many n (first-cost (admitted-by (C·Cost .algebra) (C·Cost .value)) n (now (entries .entry))) ≡ length (now (entries .entry))) (λ i. (i < length (now (entries .entry))) × Free (admitted-by (C·Cost .algebra) (C·Cost .value)) n (now (entries .entry)) i) ⌝ }
 {
     let mut seen = [false; MOST_PLACES];
     for i in 0..entries.len() {
@@ -142,7 +142,7 @@ fn free_entry<C: Cost>(n: usize, entries: &[Option<Entry<C>>]) -> Option<usize>
 
 // Clears every entry for a pair.
 fn remove<C: Cost>(n: usize, entries: &mut [Option<Entry<C>>], from: Format, to: Format)
-    ensures { λ _. ⌜ now (entries .exit) ≡ without (λ x. C·Cost .algebra .admits (C·Cost .value x)) n from to (now (entries .entry)) ⌝ }
+    ensures { λ _. ⌜ now (entries .exit) ≡ without (admitted-by (C·Cost .algebra) (C·Cost .value)) n from to (now (entries .entry)) ⌝ }
 {
     for i in 0..entries.len() {
         let held = entries[i];
@@ -168,7 +168,7 @@ impl<'a, C: Cost> List<'a, C> {
 
     // A list with no card; made with what will not do, it refuses every change.
     pub fn new(n: usize, entries: &'a mut [Option<Entry<C>>]) -> List<'a, C>
-        ensures holds { λ r. ⌜ listed (λ x. C·Cost .algebra .admits (C·Cost .value x)) (r .n) (now (r .entries)) ≡ begun n (list-fits n (length (now (entries .entry)))) (length (now (entries .entry))) ⌝ }
+        ensures holds { λ r. ⌜ listed (admitted-by (C·Cost .algebra) (C·Cost .value)) (r .n) (now (r .entries)) ≡ begun n (list-fits n (length (now (entries .entry)))) (length (now (entries .entry))) ⌝ }
         ensures memory { λ r. ⌜ now (r .entries) ≡ list-cleared n (now (entries .entry)) ⌝ }
         ensures lent { λ r. ⌜ name (r .entries) ≡ name (entries .entry) ⌝ }
     {
@@ -182,7 +182,7 @@ impl<'a, C: Cost> List<'a, C> {
     // Where a pair's card goes: into its entry, or else into a free one.
     fn entry_to_write(&self, from: Format, to: Format) -> Option<usize>
         requires { ⌜ now self .n ≤ 64 ⌝ }
-        ensures { λ r. ⌜ Cases r (Full (λ x. C·Cost .algebra .admits (C·Cost .value x)) (now (self .entry) .n) (now (now (self .entry) .entries)) from to) (λ i. Writable (λ x. C·Cost .algebra .admits (C·Cost .value x)) (now (self .entry) .n) (now (now (self .entry) .entries)) from to i) ⌝ }
+        ensures { λ r. ⌜ Cases r (Full (admitted-by (C·Cost .algebra) (C·Cost .value)) (now (self .entry) .n) (now (now (self .entry) .entries)) from to) (λ i. Writable (admitted-by (C·Cost .algebra) (C·Cost .value)) (now (self .entry) .n) (now (now (self .entry) .entries)) from to i) ⌝ }
     {
         let found = entry_for(self.n, self.entries, from, to);
         if found.is_some() {
@@ -196,7 +196,7 @@ impl<'a, C: Cost> List<'a, C> {
 pub impl<'a, C: Cost> Register for List<'a, C> as ListRegister {
     type Cost = C;
 
-    ghost holds = { λ l. listed (λ x. C·Cost .algebra .admits (C·Cost .value x)) (l .n) (now (l .entries)) };
+    ghost holds = { λ l. listed (admitted-by (C·Cost .algebra) (C·Cost .value)) (l .n) (now (l .entries)) };
 
     fn size(&self) -> usize {
         nearest_size(self.n)
@@ -213,8 +213,8 @@ pub impl<'a, C: Cost> Register for List<'a, C> as ListRegister {
 
     // Also what happens to the lent memory: a granted call writes one entry, and nothing else is touched.
     fn enter(&mut self, from: Format, to: Format, cost: C) -> Result<(), RegisterFault>
-        ensures answer { λ r. ⌜ refusal r ≡ first-cause (enter-causes (meant (C·Cost .value) (listed (λ x. C·Cost .algebra .admits (C·Cost .value x)) (now (self .entry) .n) (now (now (self .entry) .entries)))) from to (C·Cost .algebra .admits (C·Cost .value cost))) ⌝ }
-        ensures after { λ r. ⌜ meant (C·Cost .value) (listed (λ x. C·Cost .algebra .admits (C·Cost .value x)) (now (self .exit) .n) (now (now (self .exit) .entries))) ≡ after (refusal r) (meant (C·Cost .value) (listed (λ x. C·Cost .algebra .admits (C·Cost .value x)) (now (self .entry) .n) (now (now (self .entry) .entries)))) (entered (meant (C·Cost .value) (listed (λ x. C·Cost .algebra .admits (C·Cost .value x)) (now (self .entry) .n) (now (now (self .entry) .entries)))) from to (C·Cost .value cost)) ⌝ }
+        ensures answer { λ r. ⌜ refusal r ≡ first-cause (enter-causes (list-means (C·Cost .algebra) (C·Cost .value) (now (self .entry))) from to (C·Cost .algebra .admits (C·Cost .value cost))) ⌝ }
+        ensures after { λ r. ⌜ list-means (C·Cost .algebra) (C·Cost .value) (now (self .exit)) ≡ after (refusal r) (list-means (C·Cost .algebra) (C·Cost .value) (now (self .entry))) (entered (list-means (C·Cost .algebra) (C·Cost .value) (now (self .entry))) from to (C·Cost .value cost)) ⌝ }
         ensures memory { λ r. ⌜ ((i : ℕ) × (now (now (self .exit) .entries) ≡ after (refusal r) (now (now (self .entry) .entries)) (set (now (now (self .entry) .entries)) i (Some (record { from = from; to = to; cost = cost }))))) ⌝ }
         ensures lent { λ _. ⌜ name (now (self .exit) .entries) ≡ name (now (self .entry) .entries) ⌝ }
     {
@@ -234,9 +234,9 @@ pub impl<'a, C: Cost> Register for List<'a, C> as ListRegister {
 
     // Also what happens to the lent memory: a granted call clears the pair's entries, and nothing else is touched.
     fn withdraw(&mut self, from: Format, to: Format) -> Result<(), RegisterFault>
-        ensures answer { λ r. ⌜ refusal r ≡ first-cause (withdraw-causes (meant (C·Cost .value) (listed (λ x. C·Cost .algebra .admits (C·Cost .value x)) (now (self .entry) .n) (now (now (self .entry) .entries)))) from to) ⌝ }
-        ensures after { λ r. ⌜ meant (C·Cost .value) (listed (λ x. C·Cost .algebra .admits (C·Cost .value x)) (now (self .exit) .n) (now (now (self .exit) .entries))) ≡ after (refusal r) (meant (C·Cost .value) (listed (λ x. C·Cost .algebra .admits (C·Cost .value x)) (now (self .entry) .n) (now (now (self .entry) .entries)))) (withdrawn (meant (C·Cost .value) (listed (λ x. C·Cost .algebra .admits (C·Cost .value x)) (now (self .entry) .n) (now (now (self .entry) .entries)))) from to) ⌝ }
-        ensures memory { λ r. ⌜ now (now (self .exit) .entries) ≡ after (refusal r) (now (now (self .entry) .entries)) (without (λ x. C·Cost .algebra .admits (C·Cost .value x)) (now (self .entry) .n) from to (now (now (self .entry) .entries))) ⌝ }
+        ensures answer { λ r. ⌜ refusal r ≡ first-cause (withdraw-causes (list-means (C·Cost .algebra) (C·Cost .value) (now (self .entry))) from to) ⌝ }
+        ensures after { λ r. ⌜ list-means (C·Cost .algebra) (C·Cost .value) (now (self .exit)) ≡ after (refusal r) (list-means (C·Cost .algebra) (C·Cost .value) (now (self .entry))) (withdrawn (list-means (C·Cost .algebra) (C·Cost .value) (now (self .entry))) from to) ⌝ }
+        ensures memory { λ r. ⌜ now (now (self .exit) .entries) ≡ after (refusal r) (now (now (self .entry) .entries)) (without (admitted-by (C·Cost .algebra) (C·Cost .value)) (now (self .entry) .n) from to (now (now (self .entry) .entries))) ⌝ }
         ensures lent { λ _. ⌜ name (now (self .exit) .entries) ≡ name (now (self .entry) .entries) ⌝ }
     {
         judge_ends(nearest_size(self.n), from, to)?;

@@ -7,9 +7,9 @@ ghost use lib.ListN.{length, getD, set, drop, replicate};
 ghost use denote.Ref.{now, name};
 ghost use Rattle.std.specs.declared.option.Option.the-variants.{Some, None};
 ghost use Rattle.registers.specs.Fault.{first-cause, refusal, after};
-ghost use Rattle.registers.specs.Meaning.{meant, entered, withdrawn, enter-causes, withdraw-causes};
-ghost use Rattle.registers.specs.Lent.{begun, readable};
-ghost use Rattle.registers.specs.Matrix.{matrix-fits, matrix-causes, matrix, matrix-cleared};
+ghost use Rattle.registers.specs.Meaning.{entered, withdrawn, enter-causes, withdraw-causes};
+ghost use Rattle.registers.specs.Lent.{admitted-by, begun, readable};
+ghost use Rattle.registers.specs.Matrix.{matrix-fits, matrix-causes, matrix, matrix-means, matrix-cleared};
 use crate::Format;
 use crate::Register;
 use crate::RegisterFault;
@@ -38,7 +38,7 @@ fn matrix_fits(n: usize, places: usize) -> bool
 // The cost at a place, where a card may have it.
 fn cost_at<C: Cost>(places: &[Option<C>], place: usize) -> Option<C>
     requires { ⌜ place < length (now places) ⌝ }
-    ensures { λ r. ⌜ r ≡ readable (λ x. C·Cost .algebra .admits (C·Cost .value x)) (getD (now (places .entry)) place None) ⌝ }
+    ensures { λ r. ⌜ r ≡ readable (admitted-by (C·Cost .algebra) (C·Cost .value)) (getD (now (places .entry)) place None) ⌝ }
 {
     let held = places[place];
     readable_cost(held)
@@ -60,7 +60,7 @@ impl<'a, C: Cost> Matrix<'a, C> {
 
     // A matrix with no card; made with what will not do, it refuses every change.
     pub fn new(n: usize, places: &'a mut [Option<C>]) -> Matrix<'a, C>
-        ensures holds { λ r. ⌜ matrix (λ x. C·Cost .algebra .admits (C·Cost .value x)) (r .n) (now (r .places)) ≡ begun n (matrix-fits n (length (now (places .entry)))) (n * (n - 1)) ⌝ }
+        ensures holds { λ r. ⌜ matrix (admitted-by (C·Cost .algebra) (C·Cost .value)) (r .n) (now (r .places)) ≡ begun n (matrix-fits n (length (now (places .entry)))) (n * (n - 1)) ⌝ }
         ensures memory { λ r. ⌜ now (r .places) ≡ matrix-cleared n (now (places .entry)) ⌝ }
         ensures lent { λ r. ⌜ name (r .places) ≡ name (places .entry) ⌝ }
     {
@@ -74,7 +74,7 @@ impl<'a, C: Cost> Matrix<'a, C> {
 pub impl<'a, C: Cost> Register for Matrix<'a, C> as MatrixRegister {
     type Cost = C;
 
-    ghost holds = { λ m. matrix (λ x. C·Cost .algebra .admits (C·Cost .value x)) (m .n) (now (m .places)) };
+    ghost holds = { λ m. matrix (admitted-by (C·Cost .algebra) (C·Cost .value)) (m .n) (now (m .places)) };
 
     fn size(&self) -> usize {
         nearest_size(self.n)
@@ -91,8 +91,8 @@ pub impl<'a, C: Cost> Register for Matrix<'a, C> as MatrixRegister {
 
     // Also what happens to the lent memory: a granted call writes the pair's place, and nothing else is touched.
     fn enter(&mut self, from: Format, to: Format, cost: C) -> Result<(), RegisterFault>
-        ensures answer { λ r. ⌜ refusal r ≡ first-cause (enter-causes (meant (C·Cost .value) (matrix (λ x. C·Cost .algebra .admits (C·Cost .value x)) (now (self .entry) .n) (now (now (self .entry) .places)))) from to (C·Cost .algebra .admits (C·Cost .value cost))) ⌝ }
-        ensures after { λ r. ⌜ meant (C·Cost .value) (matrix (λ x. C·Cost .algebra .admits (C·Cost .value x)) (now (self .exit) .n) (now (now (self .exit) .places))) ≡ after (refusal r) (meant (C·Cost .value) (matrix (λ x. C·Cost .algebra .admits (C·Cost .value x)) (now (self .entry) .n) (now (now (self .entry) .places)))) (entered (meant (C·Cost .value) (matrix (λ x. C·Cost .algebra .admits (C·Cost .value x)) (now (self .entry) .n) (now (now (self .entry) .places)))) from to (C·Cost .value cost)) ⌝ }
+        ensures answer { λ r. ⌜ refusal r ≡ first-cause (enter-causes (matrix-means (C·Cost .algebra) (C·Cost .value) (now (self .entry))) from to (C·Cost .algebra .admits (C·Cost .value cost))) ⌝ }
+        ensures after { λ r. ⌜ matrix-means (C·Cost .algebra) (C·Cost .value) (now (self .exit)) ≡ after (refusal r) (matrix-means (C·Cost .algebra) (C·Cost .value) (now (self .entry))) (entered (matrix-means (C·Cost .algebra) (C·Cost .value) (now (self .entry))) from to (C·Cost .value cost)) ⌝ }
         ensures memory { λ r. ⌜ now (now (self .exit) .places) ≡ after (refusal r) (now (now (self .entry) .places)) (set (now (now (self .entry) .places)) (from * now (self .entry) .n + to) (Some cost)) ⌝ }
         ensures lent { λ _. ⌜ name (now (self .exit) .places) ≡ name (now (self .entry) .places) ⌝ }
     {
@@ -110,8 +110,8 @@ pub impl<'a, C: Cost> Register for Matrix<'a, C> as MatrixRegister {
 
     // Also what happens to the lent memory: a granted call clears the pair's place, and nothing else is touched.
     fn withdraw(&mut self, from: Format, to: Format) -> Result<(), RegisterFault>
-        ensures answer { λ r. ⌜ refusal r ≡ first-cause (withdraw-causes (meant (C·Cost .value) (matrix (λ x. C·Cost .algebra .admits (C·Cost .value x)) (now (self .entry) .n) (now (now (self .entry) .places)))) from to) ⌝ }
-        ensures after { λ r. ⌜ meant (C·Cost .value) (matrix (λ x. C·Cost .algebra .admits (C·Cost .value x)) (now (self .exit) .n) (now (now (self .exit) .places))) ≡ after (refusal r) (meant (C·Cost .value) (matrix (λ x. C·Cost .algebra .admits (C·Cost .value x)) (now (self .entry) .n) (now (now (self .entry) .places)))) (withdrawn (meant (C·Cost .value) (matrix (λ x. C·Cost .algebra .admits (C·Cost .value x)) (now (self .entry) .n) (now (now (self .entry) .places)))) from to) ⌝ }
+        ensures answer { λ r. ⌜ refusal r ≡ first-cause (withdraw-causes (matrix-means (C·Cost .algebra) (C·Cost .value) (now (self .entry))) from to) ⌝ }
+        ensures after { λ r. ⌜ matrix-means (C·Cost .algebra) (C·Cost .value) (now (self .exit)) ≡ after (refusal r) (matrix-means (C·Cost .algebra) (C·Cost .value) (now (self .entry))) (withdrawn (matrix-means (C·Cost .algebra) (C·Cost .value) (now (self .entry))) from to) ⌝ }
         ensures memory { λ r. ⌜ now (now (self .exit) .places) ≡ after (refusal r) (now (now (self .entry) .places)) (set (now (now (self .entry) .places)) (from * now (self .entry) .n + to) None) ⌝ }
         ensures lent { λ _. ⌜ name (now (self .exit) .places) ≡ name (now (self .entry) .places) ⌝ }
     {
