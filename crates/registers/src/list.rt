@@ -170,6 +170,7 @@ impl<'a, C: Cost> List<'a, C> {
     pub fn new(n: usize, entries: &'a mut [Option<Entry<C>>]) -> List<'a, C>
         ensures holds { λ r. ⌜ listed (admitted-by (C·Cost .algebra) (C·Cost .value)) (r .n) (now (r .entries)) ≡ begun n (list-fits n (length (now (entries .entry)))) (length (now (entries .entry))) ⌝ }
         ensures memory { λ r. ⌜ now (r .entries) ≡ list-cleared n (now (entries .entry)) ⌝ }
+        ensures size { λ r. ⌜ r .n ≡ n ⌝ }
         ensures lent { λ r. ⌜ name (r .entries) ≡ name (entries .entry) ⌝ }
     {
         if list_fits(n, entries.len()) {
@@ -216,6 +217,7 @@ pub impl<'a, C: Cost> Register for List<'a, C> as ListRegister {
         ensures answer { λ r. ⌜ refusal r ≡ first-cause (enter-causes (list-means (C·Cost .algebra) (C·Cost .value) (now (self .entry))) from to (C·Cost .algebra .admits (C·Cost .value cost))) ⌝ }
         ensures after { λ r. ⌜ list-means (C·Cost .algebra) (C·Cost .value) (now (self .exit)) ≡ after (refusal r) (list-means (C·Cost .algebra) (C·Cost .value) (now (self .entry))) (entered (list-means (C·Cost .algebra) (C·Cost .value) (now (self .entry))) from to (C·Cost .value cost)) ⌝ }
         ensures memory { λ r. ⌜ ((i : ℕ) × (now (now (self .exit) .entries) ≡ after (refusal r) (now (now (self .entry) .entries)) (set (now (now (self .entry) .entries)) i (Some (record { from = from; to = to; cost = cost }))))) ⌝ }
+        ensures size { λ _. ⌜ now (self .exit) .n ≡ now (self .entry) .n ⌝ }
         ensures lent { λ _. ⌜ name (now (self .exit) .entries) ≡ name (now (self .entry) .entries) ⌝ }
     {
         judge_ends(nearest_size(self.n), from, to)?;
@@ -237,6 +239,7 @@ pub impl<'a, C: Cost> Register for List<'a, C> as ListRegister {
         ensures answer { λ r. ⌜ refusal r ≡ first-cause (withdraw-causes (list-means (C·Cost .algebra) (C·Cost .value) (now (self .entry))) from to) ⌝ }
         ensures after { λ r. ⌜ list-means (C·Cost .algebra) (C·Cost .value) (now (self .exit)) ≡ after (refusal r) (list-means (C·Cost .algebra) (C·Cost .value) (now (self .entry))) (withdrawn (list-means (C·Cost .algebra) (C·Cost .value) (now (self .entry))) from to) ⌝ }
         ensures memory { λ r. ⌜ now (now (self .exit) .entries) ≡ after (refusal r) (now (now (self .entry) .entries)) (without (admitted-by (C·Cost .algebra) (C·Cost .value)) (now (self .entry) .n) from to (now (now (self .entry) .entries))) ⌝ }
+        ensures size { λ _. ⌜ now (self .exit) .n ≡ now (self .entry) .n ⌝ }
         ensures lent { λ _. ⌜ name (now (self .exit) .entries) ≡ name (now (self .entry) .entries) ⌝ }
     {
         judge_ends(nearest_size(self.n), from, to)?;

@@ -62,6 +62,7 @@ impl<'a, C: Cost> Matrix<'a, C> {
     pub fn new(n: usize, places: &'a mut [Option<C>]) -> Matrix<'a, C>
         ensures holds { λ r. ⌜ matrix (admitted-by (C·Cost .algebra) (C·Cost .value)) (r .n) (now (r .places)) ≡ begun n (matrix-fits n (length (now (places .entry)))) (n * (n - 1)) ⌝ }
         ensures memory { λ r. ⌜ now (r .places) ≡ matrix-cleared n (now (places .entry)) ⌝ }
+        ensures size { λ r. ⌜ r .n ≡ n ⌝ }
         ensures lent { λ r. ⌜ name (r .places) ≡ name (places .entry) ⌝ }
     {
         if matrix_fits(n, places.len()) {
@@ -94,6 +95,7 @@ pub impl<'a, C: Cost> Register for Matrix<'a, C> as MatrixRegister {
         ensures answer { λ r. ⌜ refusal r ≡ first-cause (enter-causes (matrix-means (C·Cost .algebra) (C·Cost .value) (now (self .entry))) from to (C·Cost .algebra .admits (C·Cost .value cost))) ⌝ }
         ensures after { λ r. ⌜ matrix-means (C·Cost .algebra) (C·Cost .value) (now (self .exit)) ≡ after (refusal r) (matrix-means (C·Cost .algebra) (C·Cost .value) (now (self .entry))) (entered (matrix-means (C·Cost .algebra) (C·Cost .value) (now (self .entry))) from to (C·Cost .value cost)) ⌝ }
         ensures memory { λ r. ⌜ now (now (self .exit) .places) ≡ after (refusal r) (now (now (self .entry) .places)) (set (now (now (self .entry) .places)) (from * now (self .entry) .n + to) (Some cost)) ⌝ }
+        ensures size { λ _. ⌜ now (self .exit) .n ≡ now (self .entry) .n ⌝ }
         ensures lent { λ _. ⌜ name (now (self .exit) .places) ≡ name (now (self .entry) .places) ⌝ }
     {
         judge_ends(nearest_size(self.n), from, to)?;
@@ -113,6 +115,7 @@ pub impl<'a, C: Cost> Register for Matrix<'a, C> as MatrixRegister {
         ensures answer { λ r. ⌜ refusal r ≡ first-cause (withdraw-causes (matrix-means (C·Cost .algebra) (C·Cost .value) (now (self .entry))) from to) ⌝ }
         ensures after { λ r. ⌜ matrix-means (C·Cost .algebra) (C·Cost .value) (now (self .exit)) ≡ after (refusal r) (matrix-means (C·Cost .algebra) (C·Cost .value) (now (self .entry))) (withdrawn (matrix-means (C·Cost .algebra) (C·Cost .value) (now (self .entry))) from to) ⌝ }
         ensures memory { λ r. ⌜ now (now (self .exit) .places) ≡ after (refusal r) (now (now (self .entry) .places)) (set (now (now (self .entry) .places)) (from * now (self .entry) .n + to) None) ⌝ }
+        ensures size { λ _. ⌜ now (self .exit) .n ≡ now (self .entry) .n ⌝ }
         ensures lent { λ _. ⌜ name (now (self .exit) .places) ≡ name (now (self .entry) .places) ⌝ }
     {
         judge_ends(nearest_size(self.n), from, to)?;
@@ -122,8 +125,8 @@ pub impl<'a, C: Cost> Register for Matrix<'a, C> as MatrixRegister {
         if self.card(from, to).is_none() {
             return Err(RegisterFault::NoCard);
         }
-        let place = from * self.n + to;
-        self.places[place] = None;
+        let cleared = from * self.n + to;
+        self.places[cleared] = None;
         Ok(())
     }
 }

@@ -21,5 +21,6 @@ returns g c =
     record {
       holds = ap (listed _ (c .args .n)) memory ∙ list-begins _ (c .args .n) es;
       memory = memory;
+      size = refl;
       lent = refl;
     }

@@ -11,5 +11,6 @@ returns g c =
     record {
       holds = ap (matrix _ (c .args .n)) memory ∙ cleared-begins _ (c .args .n) (c .args .places .now);
       memory = memory;
+      size = refl;
       lent = refl;
     }

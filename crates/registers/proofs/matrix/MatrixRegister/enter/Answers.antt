@@ -18,5 +18,6 @@ returns g c = record {
   answer = matrix-enter-answer (g .C·Cost .value) (admitted-by (g .C·Cost .algebra) (g .C·Cost .value)) (c .args .self .now .n) (c .args .self .now .places .now) (c .args .from) (c .args .to) _ (c .nearest-size .ensures) (c .in-Continue-judge-ends .ensures tt) (c .if-not-matrix-fits .ensures tt) (c .args .cost) (c .if-not-admitted .ensures tt);
   after = matrix-enter-after (g .C·Cost .value) (admitted-by (g .C·Cost .algebra) (g .C·Cost .value)) (c .args .self .now .n) (c .args .self .now .places .now) (c .args .from) (c .args .to) _ (c .nearest-size .ensures) (c .in-Continue-judge-ends .ensures tt) (c .if-not-matrix-fits .ensures tt) (c .args .cost) (c .if-not-admitted .ensures tt);
   memory = refl;
+  size = refl;
   lent = refl;
 }
