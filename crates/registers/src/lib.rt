@@ -1,7 +1,11 @@
 // Registers: which converter cards stand, behind one trait. The layers above are proved over a register's meaning.
+mod bar;
 mod fault;
 mod house;
 mod judge;
+mod lent;
+mod list;
+mod matrix;
 
 ghost use mathlib.Core.Path.{_≡_};
 ghost use mathlib.Core.Bool.{true};
@@ -9,6 +13,8 @@ ghost use Prim.Native.Nat.{_≤_};
 ghost use Rattle.std.specs.Options.{mapped, Cases};
 ghost use Rattle.registers.specs.Fault.{first-cause, refusal, after};
 ghost use Rattle.registers.specs.Meaning.{Meaning, meant, most-formats, standing, entered, withdrawn, enter-causes, withdraw-causes};
+pub use bar::Bar;
+pub use bar::BarRegister;
 use costs::Cost;
 pub use fault::Code;
 pub use fault::Layer;
@@ -24,6 +30,18 @@ pub use fault::RegisterFaultEq;
 pub use fault::RegisterFaultPartialEq;
 pub use house::HouseRegister;
 pub use house::HouseTable;
+pub use list::Entry;
+pub use list::List;
+pub use list::ListRegister;
+pub use list::MOST_ENTRIES;
+pub use matrix::Matrix;
+pub use matrix::MatrixRegister;
+
+// A register has at least so many formats.
+pub const LEAST_FORMATS: usize = 2;
+
+// A register has at most so many formats.
+pub const MOST_FORMATS: usize = 64;
 
 // A format, by its number. A register has those below its size.
 pub type Format = usize;

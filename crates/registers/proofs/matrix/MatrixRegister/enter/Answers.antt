@@ -1,0 +1,23 @@
+use mathlib.Core.Path.{refl}
+use borrow.Author.Needs.{needs}
+use Rattle.registers.specs.Lent.{admitted-by}
+use Rattle.registers.proofs.Matrices.{pair-below, matrix-enter-answer, matrix-enter-after}
+use Rattle.registers.proofs.matrix.MatrixRegister.enter.Needs as need
+
+pub index-self-place : need.index-self-place
+index-self-place g c =
+    pair-below (g .C·Cost .value) (admitted-by (g .C·Cost .algebra) (g .C·Cost .value)) (c .args .self .now .n) (c .args .self .now .places .now) (c .args .from) (c .args .to) _ (c .nearest-size .ensures) (c .in-Continue-judge-ends .ensures tt) (c .if-not-matrix-fits .ensures tt)
+
+pub offset-self-place : need.offset-self-place
+offset-self-place g c =
+    let below = pair-below (g .C·Cost .value) (admitted-by (g .C·Cost .algebra) (g .C·Cost .value)) (c .args .self .now .n) (c .args .self .now .places .now) (c .args .from) (c .args .to) _ (c .nearest-size .ensures) (c .in-Continue-judge-ends .ensures tt) (c .if-not-matrix-fits .ensures tt) in
+    search needs
+
+pub returns : need.returns
+returns g c = record {
+  answer = matrix-enter-answer (g .C·Cost .value) (admitted-by (g .C·Cost .algebra) (g .C·Cost .value)) (c .args .self .now .n) (c .args .self .now .places .now) (c .args .from) (c .args .to) _ (c .nearest-size .ensures) (c .in-Continue-judge-ends .ensures tt) (c .if-not-matrix-fits .ensures tt) (c .args .cost) (c .if-not-admitted .ensures tt);
+  after = matrix-enter-after (g .C·Cost .value) (admitted-by (g .C·Cost .algebra) (g .C·Cost .value)) (c .args .self .now .n) (c .args .self .now .places .now) (c .args .from) (c .args .to) _ (c .nearest-size .ensures) (c .in-Continue-judge-ends .ensures tt) (c .if-not-matrix-fits .ensures tt) (c .args .cost) (c .if-not-admitted .ensures tt);
+  memory = refl;
+  size = refl;
+  lent = refl;
+}
