@@ -2,12 +2,11 @@
 ghost use mathlib.Core.Path.{_≡_};
 ghost use mathlib.Core.Bool.{true, false};
 ghost use Prim.Native.Nat.{ℕ, _+_, _*_, _<_, _≤_};
-ghost use lib.ListN.{length};
 ghost use Rattle.std.specs.Options.{mapped};
 ghost use Rattle.costs.specs.Algebra.{reach};
 ghost use Rattle.walks.specs.Walk.{LeastOf};
 ghost use Rattle.walks.specs.Theorems.{Either};
-ghost use Rattle.walks.specs.Cells.{Laid, Kept, Each, cards-in, least-in};
+ghost use Rattle.walks.specs.Cells.{Laid, Kept, Each, cards-in};
 ghost use Rattle.walks.specs.Eliminated.{Block, Cross, Near, Calmed, Ready, Improved, Closes, FirstDone, SecondDone, ThirdDone, SweptTo, FirstFound};
 use crate::Cell;
 use crate::cells::cell_at;

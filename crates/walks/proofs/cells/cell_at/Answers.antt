@@ -2,10 +2,9 @@
 use mathlib.Core.Path.{_∙_}
 use native.Mathlib.Omega.{arith}
 use lib.ListN.{length}
-use Prim.Native.Nat.{_*_, _+_, _<_, _≤_}
+use Prim.Native.Nat.{_*_, _+_, _<_}
 use Rattle.std.proofs.shelf.Lists.{getD-default}
 use Rattle.std.proofs.shelf.Bits.{mul-le}
-use Rattle.costs.specs.Algebra.{reach}
 use Rattle.walks.proofs.Passes.{place-lt}
 use Rattle.walks.proofs.cells.cell_at.Needs as need
 

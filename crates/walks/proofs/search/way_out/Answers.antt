@@ -29,14 +29,15 @@ loop-v-again g c =
     let read = λ (x : Cell (g .R·Cost .Denot)). mapped (g .Cost·Cost .value) (x .least) in
     let means = mapped (g .Cost·Cost .value) in
     below-more _ _ (c .loop-v .inv) (elim (c .match-card .came) [
-      in-Some·in-Some-least·else-undercuts w ↦
-        let one = sym (w .in-Some .ensures tt .value) in
-        let two = sym (ap read (w .cell-at .ensures)) ∙ ap means (w .in-Some-least .is) in
-        let near = card-near L (c .args .n) _ _ (c .pre .few) one (w .in-Some .ensures tt .admitted) in
-        let sum = near-join (g .Cost·Cost .algebra) _ _ _ _ _ _ (omega arith) near (c .pre .near (c .loop-v .v) (c .loop-v-test .taken)) one two (w .join .ensures) in
-        closes-else L _ _ _ _ _ _ one two sum (c .unit-unit .ensures) (w .undercuts .ensures .never (w .if-undercuts .left))
-    | in-Some·in-rest-least w ↦ closes-none L _ _ (inr (sym (ap read (w .cell-at .ensures)) ∙ ap means (w .in-rest-least .is)))
-    | in-rest w ↦ closes-none L _ _ (inl (sym (w .in-rest .ensures tt .value))) ])
+      | in-Some·in-Some-least·else-undercuts w ↦
+          let one = sym (w .in-Some .ensures tt .value) in
+          let two = sym (ap read (w .cell-at .ensures)) ∙ ap means (w .in-Some-least .is) in
+          let near = card-near L (c .args .n) _ _ (c .pre .few) one (w .in-Some .ensures tt .admitted) in
+          let sum = near-join (g .Cost·Cost .algebra) _ _ _ _ _ _ (omega arith) near (c .pre .near (c .loop-v .v) (c .loop-v-test .taken)) one two (w .join .ensures) in
+          closes-else L _ _ _ _ _ _ one two sum (c .unit-unit .ensures) (w .undercuts .ensures .never (w .if-undercuts .left))
+      | in-Some·in-rest-least w ↦ closes-none L _ _ (inr (sym (ap read (w .cell-at .ensures)) ∙ ap means (w .in-rest-least .is)))
+      | in-rest w ↦ closes-none L _ _ (inl (sym (w .in-rest .ensures tt .value)))
+    ])
 
 pub returns : need.returns
 returns g c = let (v, l, turns) = c .pre .some in absurd (c .loop-v .inv v (omega arith) turns)
