@@ -315,14 +315,14 @@ module _ {C : Type 0} (admits : C → Bool) (n : ℕ) where
     list-free = rw (← fits)
 
 -- calls, from what they find
-module _ {C V : Type 0} (v : C → V) (admits : C → Bool) (n : ℕ) (es : List (Option (Entry C))) (a b k : ℕ) (size : k ≡ nearest-size n) (judged : None ≡ first-cause (end-causes k a b)) (fits : true ≡ list-fits n (length es)) where
-  ends : None ≡ first-cause (end-causes (nearest-size n) a b)
-  ends = subst (λ j. None ≡ first-cause (end-causes j a b)) size judged
+module _ {C V : Type 0} (v : C → V) (admits : C → Bool) (n : ℕ) (es : List (Option (Entry C))) (a b k : ℕ) (size : k ≡ nearest-size n) (judged : None ≡ first-cause (end-causes Register k a b)) (fits : true ≡ list-fits n (length es)) where
+  ends : None ≡ first-cause (end-causes Register (nearest-size n) a b)
+  ends = subst (λ j. None ≡ first-cause (end-causes Register j a b)) size judged
 
   good : (a < n) × (b < n) × (a ≡ b → ⊥)
   good =
       let fitting = nearest-fitting n (and-parts (size-fits n) (entries-fit (length es)) (sym fits) .0) in
-      good-ends n a b (subst (λ j. first-cause (end-causes j a b) ≡ None) fitting (sym ends))
+      good-ends n a b (subst (λ j. first-cause (end-causes Register j a b) ≡ None) fitting (sym ends))
 
   pub few-formats : n ≤ 64
   few-formats = fitting-size n (and-parts (size-fits n) (entries-fit (length es)) (sym fits) .0) .1

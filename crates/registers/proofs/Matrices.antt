@@ -14,6 +14,7 @@ use Rattle.std.proofs.shelf.Tests.{and-parts, and-from, both-ways, not-true, eq
 use Rattle.std.specs.declared.option.Option.{Option}
 use Rattle.std.specs.declared.option.Option.the-variants.{Some, None}
 use Rattle.registers.specs.Fault.{first-cause}
+use Rattle.registers.specs.declared.fault.Layer.the-variants.{Register}
 use Rattle.registers.specs.Meaning.{Meaning, meant, put, standing, entered, withdrawn, end-causes, enter-causes, withdraw-causes}
 use Rattle.registers.specs.Lent.{size-fits, nearest-size, possible, how-many, begun, readable}
 use Rattle.registers.specs.Matrix.{matrix-fits, matrix-card, matrix, matrix-cleared}
@@ -163,14 +164,14 @@ cleared-begins {C = C} admits n places =
             card-at admits n (matrix-cleared n places) (same ∙ e) a b p ∙ ap (λ l. readable admits (getD l (a * n + b) None)) is ∙ ap (readable admits) (getD-append-left (replicate (n * n) None) (drop (n * n) places) None (a * n + b) (rw length-replicate below) ∙ getD-replicate (n * n) (a * n + b) None None below)
 
 -- granted calls, from what they find
-module _ {C V : Type 0} (v : C → V) (admits : C → Bool) (n : ℕ) (places : List (Option C)) (a b k : ℕ) (size : k ≡ nearest-size n) (judged : None ≡ first-cause (end-causes k a b)) (fits : true ≡ matrix-fits n (length places)) where
-  ends : None ≡ first-cause (end-causes (nearest-size n) a b)
-  ends = subst (λ j. None ≡ first-cause (end-causes j a b)) size judged
+module _ {C V : Type 0} (v : C → V) (admits : C → Bool) (n : ℕ) (places : List (Option C)) (a b k : ℕ) (size : k ≡ nearest-size n) (judged : None ≡ first-cause (end-causes Register k a b)) (fits : true ≡ matrix-fits n (length places)) where
+  ends : None ≡ first-cause (end-causes Register (nearest-size n) a b)
+  ends = subst (λ j. None ≡ first-cause (end-causes Register j a b)) size judged
 
   good : (a < n) × (b < n) × (a ≡ b → ⊥)
   good =
       let fitting = nearest-fitting n (and-parts (size-fits n) (leb (n * n) (length places)) (sym fits) .0) in
-      good-ends n a b (subst (λ k. first-cause (end-causes k a b) ≡ None) fitting (sym ends))
+      good-ends n a b (subst (λ k. first-cause (end-causes Register k a b) ≡ None) fitting (sym ends))
 
   pub pair-below : a * n + b < length places
   pair-below = place-below n a b (length places) (good .0) (good .1) (sizes admits n places (sym fits) .2)

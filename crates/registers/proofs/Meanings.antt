@@ -35,7 +35,7 @@ not-refused (Ok x) o e is = is
 not-refused (Err f) o e is = absurd (false≢true e)
 
 -- what ends that pass the first judgement are
-pub good-ends : (n a b : ℕ) → first-cause (end-causes n a b) ≡ None → (a < n) × (b < n) × (a ≡ b → ⊥)
+pub good-ends : (n a b : ℕ) → first-cause (end-causes Register n a b) ≡ None → (a < n) × (b < n) × (a ≡ b → ⊥)
 good-ends n a b e = by-tests (ltb a n) (ltb b n) (eqb a b) refl refl refl e
   where
     by-tests : (x y z : Bool) → ltb a n ≡ x → ltb b n ≡ y → eqb a b ≡ z → first-cause ((not x, code Register 11 0) ∷ (not y, code Register 11 1) ∷ (z, code Register 12 1) ∷ []) ≡ None → (a < n) × (b < n) × (a ≡ b → ⊥)
@@ -45,8 +45,8 @@ good-ends n a b e = by-tests (ltb a n) (ltb b n) (eqb a b) refl refl refl e
     by-tests false y z ex ey ez h = let z : _≡_ {A = ℕ} 0 1 = cc in absurd (omega arith)
 
 -- ends that are refused are so before any other cause
-ends-refused : (n k a b : ℕ) (f : Code) (rest : List (Bool × Code)) → k ≡ n → Some f ≡ first-cause (end-causes k a b) → Some f ≡ first-cause (end-causes n a b ++ rest)
-ends-refused n k a b f rest size e = by-tests (ltb a n) (ltb b n) (eqb a b) (subst (λ j. Some f ≡ first-cause (end-causes j a b)) size e)
+ends-refused : (n k a b : ℕ) (f : Code) (rest : List (Bool × Code)) → k ≡ n → Some f ≡ first-cause (end-causes Register k a b) → Some f ≡ first-cause (end-causes Register n a b ++ rest)
+ends-refused n k a b f rest size e = by-tests (ltb a n) (ltb b n) (eqb a b) (subst (λ j. Some f ≡ first-cause (end-causes Register j a b)) size e)
   where
     by-tests : (x y z : Bool) → Some f ≡ first-cause ((not x, code Register 11 0) ∷ (not y, code Register 11 1) ∷ (z, code Register 12 1) ∷ []) → Some f ≡ first-cause ((not x, code Register 11 0) ∷ (not y, code Register 11 1) ∷ (z, code Register 12 1) ∷ rest)
     by-tests true true false h = let z : _≡_ {A = ℕ} 0 1 = cc in absurd (omega arith)
@@ -54,17 +54,17 @@ ends-refused n k a b f rest size e = by-tests (ltb a n) (ltb b n) (eqb a b) (sub
     by-tests true false z h = h
     by-tests false y z h = h
 
-pub enter-ends-refused : {V : Type 0} (m : Meaning V) (k a b : ℕ) (admitted : Bool) (f : Code) → k ≡ m .size → Some f ≡ first-cause (end-causes k a b) → Some f ≡ first-cause (enter-causes m a b admitted)
+pub enter-ends-refused : {V : Type 0} (m : Meaning V) (k a b : ℕ) (admitted : Bool) (f : Code) → k ≡ m .size → Some f ≡ first-cause (end-causes Register k a b) → Some f ≡ first-cause (enter-causes m a b admitted)
 enter-ends-refused m k a b admitted f size e = ends-refused (m .size) k a b f ((not admitted, code Register 13 2) ∷ (m .sealed a b, code Register 21 0) ∷ (not (isSome (standing m a b)) && eqb (m .free) 0, code Register 23 0) ∷ []) size e
 
-pub withdraw-ends-refused : {V : Type 0} (m : Meaning V) (k a b : ℕ) (f : Code) → k ≡ m .size → Some f ≡ first-cause (end-causes k a b) → Some f ≡ first-cause (withdraw-causes m a b)
+pub withdraw-ends-refused : {V : Type 0} (m : Meaning V) (k a b : ℕ) (f : Code) → k ≡ m .size → Some f ≡ first-cause (end-causes Register k a b) → Some f ≡ first-cause (withdraw-causes m a b)
 withdraw-ends-refused m k a b f size e = ends-refused (m .size) k a b f ((m .sealed a b, code Register 21 0) ∷ (not (isSome (standing m a b)), code Register 22 0) ∷ []) size e
 
 pub possible-ends : (n a b : ℕ) → a < n → b < n → (a ≡ b → ⊥) → (ltb a n && (ltb b n && not (eqb a b))) ≡ true
 possible-ends n a b ha hb ne = rw (lt-ltb a n ha, lt-ltb b n hb, ne-eqb a b ne)
 
 -- a granted call, from what a register holds before it and after it
-module _ {C V : Type 0} (v : C → V) (m k : Meaning C) (a b : ℕ) (ends : first-cause (end-causes (m .size) a b) ≡ None) where
+module _ {C V : Type 0} (v : C → V) (m k : Meaning C) (a b : ℕ) (ends : first-cause (end-causes Register (m .size) a b) ≡ None) where
   is-pair : pair (meant v m) a b ≡ true
   is-pair = let h = good-ends (m .size) a b ends in possible-ends (m .size) a b (h .0) (h .1) (h .2)
 

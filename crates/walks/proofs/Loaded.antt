@@ -1,7 +1,7 @@
 -- A table that is loaded with cards, cell by cell, and what the stages make of it.
 -- The cell of s and t stands at s * n + t.
 use mathlib.Core.Path.{_≡_, refl, sym, ap, subst, subst₂, fun-ext, _∙_}
-use mathlib.Core.Bool.{Bool, true, false, not, _&&_}
+use mathlib.Core.Bool.{true, false, not, _&&_}
 use mathlib.Core.List.{List}
 use mathlib.Core.Logic.{_⊎_, inl, inr}
 use Prim.Native.Nat.{ℕ, _+_, _*_, _/_, _%_, _<_, _≤_}
@@ -13,10 +13,10 @@ use Rattle.std.specs.declared.option.Option.{Option}
 use Rattle.std.specs.declared.option.Option.the-variants.{Some, None}
 use Rattle.std.proofs.shelf.Lists.{length-set, getD-set-same, getD-set-other}
 use Rattle.std.proofs.shelf.Bits.{div-mul-add, mod-mul-add}
-use Rattle.std.proofs.shelf.Tests.{ltb-true, eqb-false, not-true, lt-ltb, ne-eqb, and-parts, and-from, cases-bool, cases-eq, cond-true, cond-false}
-use Rattle.costs.specs.Algebra.{Algebra, Lawful, reach}
+use Rattle.std.proofs.shelf.Tests.{ltb-true, lt-ltb, ne-eqb, and-parts, and-from, cases-bool, cases-eq, cond-true, cond-false}
+use Rattle.costs.specs.Algebra.{Algebra}
 use Rattle.walks.specs.Theorems.{Sound}
-use Rattle.walks.specs.Cells.{empty, cell, Kept, Laid, Each, cards-in, least-in}
+use Rattle.walks.specs.Cells.{empty, cell, Kept, Laid, Each, cards-in}
 use Rattle.walks.specs.Solved.{Beyond, Fresh}
 use Rattle.walks.specs.declared.cells.Cell.{Cell}
 use Rattle.walks.proofs.Passes.{place-lt}
@@ -68,6 +68,7 @@ module _ (A : Algebra) {C : Type 0} (value : C → A .Value) (n : ℕ) (card : �
             let b = and-from _ _ (lt-ltb s n (i .0)) (and-from _ _ (lt-ltb t n (i .1)) (ap not (ne-eqb s t (i .2)))) in
             let z : true ≡ false = sym b ∙ h in
             cc
+
         go : (s t : ℕ) → ((ltb s n && (ltb t n && not (eqb s t))) ≡ true) ⊎ ((ltb s n && (ltb t n && not (eqb s t))) ≡ false) → cards-in A value n cells s t ≡ card s t
         go s t (inl h) =
             let p = and-parts (ltb s n) _ h in

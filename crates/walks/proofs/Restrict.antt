@@ -1,7 +1,7 @@
 -- The cards up to a format: what they are, and which walks go over them.
 -- No closed walk over them undercuts the unit, where no look below that format found one.
-use mathlib.Core.Path.{_≡_, refl, sym, ap, subst, fun-ext, _∙_}
-use mathlib.Core.Bool.{Bool, true, false, _&&_, not}
+use mathlib.Core.Path.{_≡_, refl, sym, ap, fun-ext, _∙_}
+use mathlib.Core.Bool.{true, false, _&&_}
 use mathlib.Core.List.{List, [], _∷_}
 use mathlib.Core.Logic.{_⊎_, inl, inr}
 use Prim.Native.Nat.{ℕ, _<_, _≤_}
@@ -13,7 +13,7 @@ use Rattle.std.specs.declared.option.Option.the-variants.{Some, None}
 use Rattle.std.proofs.shelf.Tests.{false≢true, ltb-true, leb-true, eqb-false, not-true, lt-ltb, le-leb, and-parts, and-from, cases-bool, cond-true, cond-false}
 use Rattle.costs.specs.Algebra.{Algebra, Lawful}
 use Rattle.registers.specs.Meaning.{Meaning, pair, standing}
-use Rattle.walks.specs.Walk.{path, Below, Gains, GainsAt}
+use Rattle.walks.specs.Walk.{Below, Gains}
 use Rattle.walks.specs.Eliminated.{Calmed}
 use Rattle.walks.specs.Solved.{upto}
 use Rattle.walks.proofs.Runs.{Runs, to-runs}

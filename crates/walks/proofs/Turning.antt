@@ -61,7 +61,7 @@ module _ {A : Algebra} (L : Lawful A) {C : Type 0} (value : C → A .Value) (n :
       let small = back .sound .small in
       let inside = back .inside in
       L .within-more (n - 1) (suc n) x (omega arith) (omega arith)
-        (least-is-near L n (upto h card) (back .sound) (back .settled .calm) v h ne x (subst (Least A (upto h card) v h) e (back .settled .least v h (omega arith) inside ne)))
+      (least-is-near L n (upto h card) (back .sound) (back .settled .calm) v h ne x (subst (Least A (upto h card) v h) e (back .settled .least v h (omega arith) inside ne)))
 
   -- a closed walk at h goes out of h by a card and then up to h, where the least cost is at most as much
   pub turns-some : ((x : A .Value) → card h h ≡ Some x → ⊥) → GainsAt A card h → (v : ℕ) × (v < h) × Turns A value n card cells h v
@@ -89,6 +89,10 @@ module _ {A : Algebra} (L : Lawful A) {C : Type 0} (value : C → A .Value) (n :
       let (ms, chain, costs, follows) = subst (By (upto h card) next v) eb by in
       let rest = upto-runs L h card v ms h _ (to-runs L (upto h card) v ms h (chain .0)) .2 in
       let q = of-runs L card h (v ∷ ms) h x (a, b, ea, subst (Runs A card v ms h) costs rest, ex) in
-      let d = distinct-front (v ∷ ms) h [] (chain .1) in
-      (ms, (q .0, (d .1, d .0)), subst (λ y. A .Under y (A .unit)) (sym (q .1)) under, follows,
-        chain-leads-in L n (upto h card) (back .sound) most-formats (back .few) (back .few) next h v ms chain follows)
+      let d = distinct-front (v ∷ ms) h [] (chain .1) in (
+        ms,
+        (q .0, (d .1, d .0)),
+        subst (λ y. A .Under y (A .unit)) (sym (q .1)) under,
+        follows,
+        chain-leads-in L n (upto h card) (back .sound) most-formats (back .few) (back .few) next h v ms chain follows,
+      )

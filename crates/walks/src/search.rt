@@ -1,7 +1,7 @@
 // The search of a register's cards: their least costs in a table of cells, or a loop that undercuts the unit.
 ghost use mathlib.Core.Path.{_≡_};
 ghost use mathlib.Core.Bool.{true};
-ghost use Prim.Native.Nat.{ℕ, _+_, _*_, _/_, _%_, _<_, _≤_};
+ghost use Prim.Native.Nat.{ℕ, _*_, _/_, _%_, _<_, _≤_};
 ghost use lib.ListN.{length, getD};
 ghost use Rattle.std.specs.Options.{mapped, Cases};
 ghost use Rattle.std.specs.declared.option.Option.the-variants.{Some};
@@ -27,7 +27,11 @@ fn card_upto<R: Register>(register: &R, high: usize, s: usize, t: usize) -> Opti
     ensures value { λ r. ⌜ mapped (Cost·Cost .value) r ≡ upto high (standing (meant (Cost·Cost .value) (holds (now (register .entry))))) s t ⌝ }
     ensures admitted { λ r. ⌜ Cases r (Unit {0}) (λ x. Cost·Cost .algebra .admits (Cost·Cost .value x) ≡ true) ⌝ }
 {
-    if s < high && t <= high { register.card(s, t) } else { None }
+    if s < high && t <= high {
+        register.card(s, t)
+    } else {
+        None
+    }
 }
 
 // Sets every cell to the register's card, where that leads from a format below `high` to one up to it, else to none.
@@ -60,7 +64,12 @@ fn settle<C: Cost>(cells: &mut [Cell<C>], n: usize) -> Option<usize>
 }
 
 // The same for the register's cards that lead from a format below `high` to one up to it.
-fn solve_upto<R: Register>(register: &R, cells: &mut [Cell<R::Cost>], n: usize, high: usize) -> Option<usize>
+fn solve_upto<R: Register>(
+    register: &R,
+    cells: &mut [Cell<R::Cost>],
+    n: usize,
+    high: usize,
+) -> Option<usize>
     requires room { ⌜ n * n ≤ length (now cells) ⌝ }
     requires size { ⌜ n ≡ holds (now register) .size ⌝ }
     requires few { ⌜ (0 < n) × (n ≤ 64) ⌝ }

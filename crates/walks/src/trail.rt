@@ -1,7 +1,7 @@
 // Chains of least cost to a goal, read from a table of least costs.
 ghost use mathlib.Core.Path.{_≡_};
 ghost use mathlib.Core.Bool.{true, false};
-ghost use Prim.Native.Nat.{ℕ, _*_, _<_, _≤_};
+ghost use Prim.Native.Nat.{ℕ, _<_, _≤_};
 ghost use denote.Ref.{name};
 ghost use lib.ListN.{length, getD, set};
 ghost use Rattle.std.specs.Options.{mapped};

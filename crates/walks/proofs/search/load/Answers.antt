@@ -20,8 +20,7 @@ pub loop-k-again : need.loop-k-again
 loop-k-again g c =
     let A = g .Cost·Cost .algebra in
     let value = g .Cost·Cost .value in
-    let card = upto (c .args .high) (standing (meant value (g .R·Register .holds (c .args .register .now)))) in
-    (
+    let card = upto (c .args .high) (standing (meant value (g .R·Register .holds (c .args .register .now)))) in (
       beyond-more _ _ _ _ _ (c .loop-k-test .taken) (c .loop-k .inv .0),
       loaded-more A value (c .args .n) card _ _ _ (omega arith) (fresh-made A value _ _ (c .card-upto-card .ensures .value) (c .card-upto-card .ensures .admitted)) (c .loop-k .inv .1),
     )

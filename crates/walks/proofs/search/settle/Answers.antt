@@ -1,6 +1,5 @@
 -- The cards stay through the stages, so each stage is about the cards at entry.
-use mathlib.Core.Path.{sym, subst, _∙_}
-use Rattle.walks.specs.Cells.{cards-in}
+use mathlib.Core.Path.{sym, subst}
 use Rattle.walks.specs.Eliminated.{Calmed, FirstDone, SecondDone, ThirdDone}
 use Rattle.walks.proofs.Loops.{no-hidden-loop}
 use Rattle.walks.proofs.Passes.{cards-kept, kept-then, laid-kept}

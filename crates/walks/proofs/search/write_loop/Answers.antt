@@ -13,7 +13,7 @@ use Rattle.walks.proofs.search.write_loop.Needs as need
 pub trace-requires : need.trace-requires
 trace-requires g c κs =
     let back = solved-back (g .Cost·Cost·met .lawful) (g .Cost·Cost .value) (g .R·Register .holds (c .args .register .now)) _ _ _ _
-        (c .size-n .ensures .value) (c .size-n .ensures .bounds .1) (c .pre .found) (c .solve-upto .ensures .sound) (c .solve-upto .ensures .solved) in
+    (c .size-n .ensures .value) (c .size-n .ensures .bounds .1) (c .pre .found) (c .solve-upto .ensures .sound) (c .solve-upto .ensures .solved) in
     record {
       laid = back .settled .laid;
       few = back .few;
@@ -28,7 +28,7 @@ way-out-from-requires g c κs =
     let L = g .Cost·Cost·met .lawful in
     let m = meant (g .Cost·Cost .value) (g .R·Register .holds (c .args .register .now)) in
     let back = solved-back (g .Cost·Cost·met .lawful) (g .Cost·Cost .value) (g .R·Register .holds (c .args .register .now)) _ _ _ _
-        (c .size-n .ensures .value) (c .size-n .ensures .bounds .1) (c .pre .found) (c .solve-upto .ensures .sound) (c .solve-upto .ensures .solved) in
+    (c .size-n .ensures .value) (c .size-n .ensures .bounds .1) (c .pre .found) (c .solve-upto .ensures .sound) (c .solve-upto .ensures .solved) in
     record {
       room = back .settled .laid .room;
       few = back .few;
@@ -40,14 +40,14 @@ way-out-from-requires g c κs =
 pub write-round-requires : need.write-round-requires
 write-round-requires g c κs =
     let back = solved-back (g .Cost·Cost·met .lawful) (g .Cost·Cost .value) (g .R·Register .holds (c .args .register .now)) _ _ _ _
-        (c .size-n .ensures .value) (c .size-n .ensures .bounds .1) (c .pre .found) (c .solve-upto .ensures .sound) (c .solve-upto .ensures .solved) in
+    (c .size-n .ensures .value) (c .size-n .ensures .bounds .1) (c .pre .found) (c .solve-upto .ensures .sound) (c .solve-upto .ensures .solved) in
     let loop = turns-loop (g .Cost·Cost·met .lawful) _ _ _ _ _ back (c .trace .last .next) _ (c .way-out-from .ensures) (c .trace .ensures .traced) in
     record { room = c .pre .row; leads = loop .4; inside = omega (arith, back .inside, back .few) }
 
 pub returns : need.returns
 returns g c =
     let back = solved-back (g .Cost·Cost·met .lawful) (g .Cost·Cost .value) (g .R·Register .holds (c .args .register .now)) _ _ _ _
-        (c .size-n .ensures .value) (c .size-n .ensures .bounds .1) (c .pre .found) (c .solve-upto .ensures .sound) (c .solve-upto .ensures .solved) in
+    (c .size-n .ensures .value) (c .size-n .ensures .bounds .1) (c .pre .found) (c .solve-upto .ensures .sound) (c .solve-upto .ensures .solved) in
     let loop = turns-loop (g .Cost·Cost·met .lawful) _ _ _ _ _ back (c .trace .last .next) _ (c .way-out-from .ensures) (c .trace .ensures .traced) in
     let from = c .way-out-from .result in
     record {
