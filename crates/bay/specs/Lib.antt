@@ -5,3 +5,4 @@ pub mod Plain
 pub mod Bays
 pub mod Routes
 pub mod Routing
+pub mod Places

@@ -5,6 +5,7 @@ mod fault;
 mod judge;
 mod legs;
 mod legs_calls;
+mod writing;
 
 pub use bays::Bay;
 pub use calls::Call;
