@@ -1,5 +1,5 @@
--- One place of a page is written, and then one after the other: without a chain at first, and then all places of the legs
--- to one goal.
+-- One place of a page is written, and then one after the other: without a chain at first, then all legs to one goal, and so
+-- goal by goal.
 use mathlib.Core.Path.{_≡_, refl, sym, ap, subst, _∙_}
 use mathlib.Core.List.{List, [], _∷_, map}
 use mathlib.Core.Logic.{_⊎_, inl, inr, ⊎-elim}
@@ -14,7 +14,7 @@ use Rattle.walks.specs.Sheet.{put-row, row-at, row-of}
 use Rattle.walks.proofs.Sheets.{length-put-row, length-row-of, row-at-put-row, row-at-put-row-other, getD-put-row-above}
 use Rattle.bay.specs.Leg.{no-leg, noted}
 use Rattle.bay.specs.Legs.{booked}
-use Rattle.bay.specs.Places.{Awaits, Blank, Done, Ends-in, Page, Place, Room, Served, Spares, Written, page, place}
+use Rattle.bay.specs.Places.{Blank, Done, Ends-in, Page, Room, Served, Spares, Written, page, place}
 use Rattle.bay.specs.Plain.{Ends, ends}
 use Rattle.bay.specs.Routes.{no-ends}
 use Rattle.bay.specs.Routing.{Beyond}
@@ -24,11 +24,11 @@ use Rattle.bay.specs.declared.legs.Note.{Note}
 use Rattle.bay.specs.declared.legs.Note.the-variants.{NoChain}
 use Rattle.bay.proofs.LegSteps.{length-booked}
 
-pub booked-apart : (l : Legs) (k : ℕ) → k < length (booked l) → getD (booked l) k no-leg .from ≡ getD (booked l) k no-leg .to → ⊥
-booked-apart l k h e =
+pub leg-apart : (l : Legs) (k : ℕ) (leg : Leg) → k < length (booked l) → leg ≡ getD (booked l) k no-leg → leg .from ≡ leg .to → ⊥
+leg-apart l k leg h is e =
     let lt : k < l .count = omega (arith, length-booked l) in
-    let same = getD-take (l .count) (l .list) k no-leg lt in
-    l .apart k lt (ap (λ leg. leg .from) (sym same) ∙ e ∙ ap (λ leg. leg .to) same)
+    let same = is ∙ getD-take (l .count) (l .list) k no-leg lt in
+    l .apart k lt (ap (λ o. o .from) (sym same) ∙ e ∙ ap (λ o. o .to) same)
 
 pub ends-at : (legs : List Leg) (k : ℕ) → ends (getD legs k no-leg) ≡ getD (map ends legs) k no-ends
 ends-at [] k = refl
@@ -159,4 +159,42 @@ module _ (A : Algebra) {C : Type 0} (value : C → A .Value) where
           (λ is. subst (λ j. Done A value card next (place q j)) (sym is) fresh)
           (λ other. subst (Done A value card next) (sym (others k other)) (s .done k (omega arith) (ap (λ r. r .leg .to) (sym (others k other)) ∙ e)))
           (cases-eq k i);
+      }
+
+    -- every leg to a goal below the given one is done, and no other has a chain yet
+    pub record Progress (before now : Page C) (goal : ℕ) : Type 0 where
+      pub written : Written before now
+      pub later : (k : ℕ) → k < length (now .legs) → goal ≤ getD (now .legs) k no-leg .to → Blank A value (place now k)
+      pub served : (t : ℕ) → t < goal → (next : List ℕ) × Served A value card next t now
+
+    pub progress-none : (before now : Page C) → Written before now → ((k : ℕ) → k < length (now .legs) → Blank A value (place now k)) → Progress before now 0
+    progress-none before now w blank = record { written = w; later = λ k lt le. blank k lt; served = λ t lt. absurd (omega arith) }
+
+    -- what was written before the first goal counts too
+    pub progress-since : (p before now : Page C) (goal : ℕ) → Written p before → Progress before now goal → Progress p now goal
+    progress-since p before now goal w s = record { written = written-then p before w now (s .written); later = s .later; served = s .served }
+
+    module _ (before now : Page C) (goal : ℕ) (s : Progress before now goal) where
+      -- no leg ends in the goal
+      pub progress-passes : ((k : ℕ) → k < length (now .legs) → Ends-in now k goal → ⊥) → Progress before now (goal + 1)
+      progress-passes none = record {
+        written = s .written;
+        later = λ k lt le. s .later k lt (omega arith);
+        served = λ t lt. ⊎-elim (λ is. ([], λ k l e. absurd (none k l (e ∙ is)))) (λ other. s .served t (omega arith)) (cases-eq t goal);
+      }
+
+      pub progress-more : (q : Page C) (next : List ℕ) → Written now q → Spares goal now q → Served A value card next goal q → Progress before q (goal + 1)
+      progress-more q next w spared done = record {
+        written = written-then before now (s .written) q w;
+        later = λ k lt le.
+            let to-is = same-to now q w k in
+            subst (Blank A value) (sym (spared k (λ e. omega arith))) (s .later k (omega (arith, same-number now q w)) (omega arith));
+        served = λ t lt. ⊎-elim
+          (λ is. (next, subst (λ g. Served A value card next g q) (sym is) done))
+          (λ other.
+            let (old, had) = s .served t (omega arith) in
+            (old, λ k l e.
+              let ended : Ends-in now k t = sym (same-to now q w k) ∙ e in
+              subst (Done A value card old) (sym (spared k (λ z. other (sym ended ∙ z)))) (had k (omega (arith, same-number now q w)) ended)))
+          (cases-eq t goal);
       }

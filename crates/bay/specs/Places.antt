@@ -67,6 +67,12 @@ module _ (A : Algebra) {C : Type 0} (value : C → A .Value) where
     pub found : (d : C) → Unreached A card (ends (q .leg)) (q .row) (value (q .cost d)) ⊎
         ((r : Reached A card (ends (q .leg)) (q .row) (value (q .cost d))) × Follows next (q .leg .to) (q .leg .from) (path (q .leg .from) (r .inner) (q .leg .to)))
 
+  -- leg k is done, and all other places are as they were
+  pub record LegDone (card : ℕ → ℕ → Option (A .Value)) (next : List ℕ) (k : ℕ) (before after : Page C) : Type 0 where
+    pub written : Written before after
+    pub others : (j : ℕ) → (j ≡ k → ⊥) → place after j ≡ place before j
+    pub done : Done card next (place after k)
+
   -- no leg to the goal has a chain yet
   abbrev pub Awaits : ℕ → Page C → Type 0
   Awaits goal p = (k : ℕ) → k < length (p .legs) → Ends-in p k goal → Blank (place p k)
