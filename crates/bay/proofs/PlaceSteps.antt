@@ -35,6 +35,9 @@ ends-at [] k = refl
 ends-at (leg ∷ legs) zero = refl
 ends-at (leg ∷ legs) (suc k) = ends-at legs k
 
+pub page-same : {C : Type 0} {l m : Legs} {xs ys : List C} {s t : List ℕ} → l ≡ m → xs ≡ ys → s ≡ t → page (booked l) xs s ≡ page (booked m) ys t
+page-same p q r i = page (booked (p i)) (q i) (r i)
+
 -- lists of one length that agree at a place do so at any default
 any-default : (xs ys : List ℕ) → length xs ≡ length ys → (j d : ℕ) → getD xs j 0 ≡ getD ys j 0 → getD xs j d ≡ getD ys j d
 any-default xs ys long j d e =

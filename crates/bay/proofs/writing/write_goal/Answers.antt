@@ -1,12 +1,11 @@
 use mathlib.Core.Path.{_≡_, ap, subst, sym, _∙_}
 use Prim.Native.Nat.{ℕ, _+_, _<_}
 use native.Mathlib.Omega.{arith}
-use lib.ListN.{length, getD}
-use Rattle.bay.specs.Leg.{no-leg}
-use Rattle.bay.specs.Legs.{booked}
-use Rattle.bay.specs.Places.{Blank, page, place}
+use Rattle.walks.specs.Cells.{cards-in}
 use Rattle.walks.specs.Tracing.{Traced}
-use Rattle.bay.proofs.PlaceSteps.{Serving, same-number, same-to, serving-none, serving-passes, serving-more, written-room}
+use Rattle.bay.specs.Legs.{booked}
+use Rattle.bay.specs.Places.{Blank, page}
+use Rattle.bay.proofs.PlaceSteps.{Serving, page-same, same-number, same-to, serving-none, serving-passes, serving-more, written-room}
 use Rattle.bay.proofs.writing.write_goal.Needs as need
 use Rattle.bay.proofs.writing.write_goal.Needs.{then-leg-goal, else-leg-goal}
 
@@ -40,17 +39,18 @@ pub loop-k-again : need.loop-k-again
 loop-k-again g c =
     let before = page (booked (c .args .legs .now)) (c .args .costs .now) (c .args .chains .now) in
     let now = page (booked (c .loop-k .legs)) (c .loop-k .costs) (c .loop-k .chains) in
+    let card = cards-in (g .C·Cost .algebra) (g .C·Cost .value) (c .args .n) (c .args .table .now) in
     let same = ap (λ leg. leg .to) (sym (c .leg-at-leg .ensures)) in
     elim (c .if-leg-goal .came) [
       | then-leg-goal w ↦
-          let is = λ i. page (booked (w .legs-is i)) (w .costs-is i) (w .chains-is i) in
+          let is = page-same (w .legs-is) (w .costs-is) (w .chains-is) in
           let told = w .write-leg .ensures in
-          subst (λ q. Serving (g .C·Cost .algebra) (g .C·Cost .value) _ (c .args .next .now) (c .args .goal) before q (c .loop-k .k + 1)) (sym is)
-          (serving-more (g .C·Cost .algebra) (g .C·Cost .value) _ (c .args .next .now) (c .args .goal) before now (c .loop-k .k) (c .loop-k .inv) _ (same ∙ w .if-leg-goal .taken) (told .written) (told .others) (told .done))
+          subst (λ q. Serving (g .C·Cost .algebra) (g .C·Cost .value) card (c .args .next .now) (c .args .goal) before q (c .loop-k .k + 1)) (sym is)
+          (serving-more (g .C·Cost .algebra) (g .C·Cost .value) card (c .args .next .now) (c .args .goal) before now (c .loop-k .k) (c .loop-k .inv) _ (same ∙ w .if-leg-goal .taken) (told .written) (told .others) (told .done))
       | else-leg-goal w ↦
-          let is = λ i. page (booked (w .legs-is i)) (w .costs-is i) (w .chains-is i) in
-          subst (λ q. Serving (g .C·Cost .algebra) (g .C·Cost .value) _ (c .args .next .now) (c .args .goal) before q (c .loop-k .k + 1)) (sym is)
-          (serving-passes (g .C·Cost .algebra) (g .C·Cost .value) _ (c .args .next .now) (c .args .goal) before now (c .loop-k .k) (c .loop-k .inv) (λ e. w .if-leg-goal .left (sym same ∙ e)))
+          let is = page-same (w .legs-is) (w .costs-is) (w .chains-is) in
+          subst (λ q. Serving (g .C·Cost .algebra) (g .C·Cost .value) card (c .args .next .now) (c .args .goal) before q (c .loop-k .k + 1)) (sym is)
+          (serving-passes (g .C·Cost .algebra) (g .C·Cost .value) card (c .args .next .now) (c .args .goal) before now (c .loop-k .k) (c .loop-k .inv) (λ e. w .if-leg-goal .left (sym same ∙ e)))
     ]
 
 pub returns : need.returns

@@ -5,7 +5,7 @@ use Rattle.walks.specs.Cells.{cards-in}
 use Rattle.walks.specs.Tracing.{Clear}
 use Rattle.bay.specs.Legs.{booked}
 use Rattle.bay.specs.Places.{page}
-use Rattle.bay.proofs.PlaceSteps.{Progress, progress-none, progress-passes, progress-more, progress-since, same-number, written-none, written-room}
+use Rattle.bay.proofs.PlaceSteps.{Progress, page-same, progress-none, progress-passes, progress-more, progress-since, same-number, written-none, written-room}
 use Rattle.bay.proofs.RouteSteps.{all-routed, all-noted}
 use Rattle.bay.proofs.writing.write_routes.Needs as need
 use Rattle.bay.proofs.writing.write_routes.Needs.{then-leads-to, else-leads-to}
@@ -46,14 +46,14 @@ loop-goal-again g c =
     let card = cards-in (g .C·Cost .algebra) (g .C·Cost .value) (c .args .n) (c .args .table .now) in
     elim (c .if-leads-to .came) [
       | then-leads-to w ↦
-          let is = λ i. page (booked (w .legs-is i)) (w .costs-is i) (w .chains-is i) in
+          let is = page-same (w .legs-is) (w .costs-is) (w .chains-is) in
           let told = w .write-goal .ensures in (
             subst (λ q. Progress (g .C·Cost .algebra) (g .C·Cost .value) card before q (c .loop-goal .goal + 1)) (sym is)
                 (progress-more (g .C·Cost .algebra) (g .C·Cost .value) card before now (c .loop-goal .goal) (c .loop-goal .inv .0) _ _ (told .written) (told .spares) (told .served)),
             subst Clear (sym (w .ticks-is)) (w .trace .ensures .clear),
           )
       | else-leads-to w ↦
-          let is = λ i. page (booked (w .legs-is i)) (w .costs-is i) (w .chains-is i) in (
+          let is = page-same (w .legs-is) (w .costs-is) (w .chains-is) in (
             subst (λ q. Progress (g .C·Cost .algebra) (g .C·Cost .value) card before q (c .loop-goal .goal + 1)) (sym is)
                 (progress-passes (g .C·Cost .algebra) (g .C·Cost .value) card before now (c .loop-goal .goal) (c .loop-goal .inv .0) (c .leads-to .ensures (w .if-leads-to .left))),
             subst Clear (sym (w .ticks-is)) (c .loop-goal .inv .1),
