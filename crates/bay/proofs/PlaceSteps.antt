@@ -2,22 +2,21 @@
 -- goal by goal.
 use mathlib.Core.Path.{_≡_, refl, sym, ap, subst, _∙_}
 use mathlib.Core.List.{List, [], _∷_, map}
-use mathlib.Core.Logic.{_⊎_, inl, inr, ⊎-elim}
+use mathlib.Core.Logic.{⊎-elim}
 use Prim.Native.Nat.{ℕ, zero, suc, _+_, _*_, _≤_, _<_}
 use native.Mathlib.Omega.{arith}
 use lib.ListN.{length, getD, set, length-map, length-set}
-use Rattle.std.proofs.shelf.Lists.{getD-default, getD-past, getD-map, getD-set-same, getD-set-other, getD-take, map-set, set-getD}
+use Rattle.std.proofs.shelf.Lists.{getD-default, getD-past, getD-set-same, getD-set-other, getD-take, map-set, set-getD}
 use Rattle.std.proofs.shelf.Tests.{cases-lt, cases-eq}
 use Rattle.costs.specs.Algebra.{Algebra}
 use Rattle.std.specs.declared.option.Option.{Option}
-use Rattle.walks.specs.Sheet.{put-row, row-at, row-of}
+use Rattle.walks.specs.Sheet.{put-row, row-of}
 use Rattle.walks.proofs.Sheets.{length-put-row, length-row-of, row-at-put-row, row-at-put-row-other, getD-put-row-above}
 use Rattle.bay.specs.Leg.{no-leg, noted}
 use Rattle.bay.specs.Legs.{booked}
 use Rattle.bay.specs.Places.{Blank, Done, Ends-in, Page, Room, Served, Spares, Written, page, place}
-use Rattle.bay.specs.Plain.{Ends, ends}
+use Rattle.bay.specs.Plain.{ends}
 use Rattle.bay.specs.Routes.{no-ends}
-use Rattle.bay.specs.Routing.{Beyond}
 use Rattle.bay.specs.declared.legs.Leg.{Leg}
 use Rattle.bay.specs.declared.legs.Legs.{Legs}
 use Rattle.bay.specs.declared.legs.Note.{Note}
@@ -121,11 +120,11 @@ module _ (A : Algebra) {C : Type 0} (value : C → A .Value) where
       let q : Page C = put p i NoChain (row-of []) x in
       let long = length-row-of [] (omega arith) in
       let blank : (k : ℕ) → k < i + 1 → Blank A value (place q k) =
-        λ k lt. ⊎-elim
-          (λ e. subst (λ j. Blank A value (place q j)) (sym e)
-            (subst (Blank A value) (sym (put-here p i inside room NoChain (row-of []) long x)) (record { note-is = refl; row-is = refl; costs = λ d. unit })))
-          (λ ne. subst (Blank A value) (sym (put-other p i inside room NoChain (row-of []) long x k ne)) (done k (omega arith)))
-          (cases-eq k i) in
+      λ k lt. ⊎-elim
+      (λ e. subst (λ j. Blank A value (place q j)) (sym e)
+      (subst (Blank A value) (sym (put-here p i inside room NoChain (row-of []) long x)) (record { note-is = refl; row-is = refl; costs = λ d. unit })))
+      (λ ne. subst (Blank A value) (sym (put-other p i inside room NoChain (row-of []) long x k ne)) (done k (omega arith)))
+      (cases-eq k i) in
       let same : page legs (set (p .costs) i x) chains ≡ q = λ j. page (el j) (set (p .costs) i x) (ec j) in
       subst (λ r. Cleared before r (i + 1)) (sym same) (written-then before p w q (put-written p i inside room NoChain (row-of []) long x), blank)
 
@@ -155,13 +154,13 @@ module _ (A : Algebra) {C : Type 0} (value : C → A .Value) where
         written = written-then before now (s .written) q w;
         onward = λ k le. others k (omega arith) ∙ s .onward k (omega arith);
         spares = λ k ne. ⊎-elim
-          (λ is. absurd (ne (ap (λ j. getD (before .legs) j no-leg .to) is ∙ sym (same-to before now (s .written) i) ∙ here)))
-          (λ other. others k other ∙ s .spares k ne)
-          (cases-eq k i);
+            (λ is. absurd (ne (ap (λ j. getD (before .legs) j no-leg .to) is ∙ sym (same-to before now (s .written) i) ∙ here)))
+            (λ other. others k other ∙ s .spares k ne)
+            (cases-eq k i);
         done = λ k lt e. ⊎-elim
-          (λ is. subst (λ j. Done A value card next (place q j)) (sym is) fresh)
-          (λ other. subst (Done A value card next) (sym (others k other)) (s .done k (omega arith) (ap (λ r. r .leg .to) (sym (others k other)) ∙ e)))
-          (cases-eq k i);
+            (λ is. subst (λ j. Done A value card next (place q j)) (sym is) fresh)
+            (λ other. subst (Done A value card next) (sym (others k other)) (s .done k (omega arith) (ap (λ r. r .leg .to) (sym (others k other)) ∙ e)))
+            (cases-eq k i);
       }
 
     -- every leg to a goal below the given one is done, and no other has a chain yet
@@ -193,11 +192,13 @@ module _ (A : Algebra) {C : Type 0} (value : C → A .Value) where
             let to-is = same-to now q w k in
             subst (Blank A value) (sym (spared k (λ e. omega arith))) (s .later k (omega (arith, same-number now q w)) (omega arith));
         served = λ t lt. ⊎-elim
-          (λ is. (next, subst (λ g. Served A value card next g q) (sym is) done))
-          (λ other.
-            let (old, had) = s .served t (omega arith) in
-            (old, λ k l e.
-              let ended : Ends-in now k t = sym (same-to now q w k) ∙ e in
-              subst (Done A value card old) (sym (spared k (λ z. other (sym ended ∙ z)))) (had k (omega (arith, same-number now q w)) ended)))
-          (cases-eq t goal);
+            (λ is. (next, subst (λ g. Served A value card next g q) (sym is) done))
+            (λ other.
+            let (old, had) = s .served t (omega arith) in (
+              old,
+              λ k l e.
+                  let ended : Ends-in now k t = sym (same-to now q w k) ∙ e in
+                  subst (Done A value card old) (sym (spared k (λ z. other (sym ended ∙ z)))) (had k (omega (arith, same-number now q w)) ended),
+            ))
+            (cases-eq t goal);
       }

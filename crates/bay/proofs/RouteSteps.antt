@@ -2,7 +2,7 @@
 -- the end for all legs together.
 use mathlib.Core.Path.{_≡_, refl, sym, ap, subst, _∙_}
 use mathlib.Core.Bool.{cond}
-use mathlib.Core.List.{List, [], _∷_, _++_, map}
+use mathlib.Core.List.{List, [], _∷_, map}
 use mathlib.Core.Logic.{_⊎_, inl, inr, ⊎-elim}
 use Prim.Native.Nat.{ℕ, _≤_, _<_}
 use native.Mathlib.Omega.{arith}
@@ -93,7 +93,7 @@ module _ {A : Algebra} (L : Lawful A) {C : Type 0} (value : C → A .Value) (n :
             let q : Page C = put p k (ChainOf count) (row-of fs) x in
             let same : page legs (set (p .costs) k x) chains ≡ q = λ i. page (noted-is i) (set (p .costs) k x) (row-put i) in
             let chain-note : ChainOf count ≡ note-of (row-of fs) =
-              ap ChainOf counted ∙ ap (λ b. cond b NoChain (ChainOf (length fs))) (sym (ne-eqb (length fs) 0 (λ z. omega arith))) in
+            ap ChainOf counted ∙ ap (λ b. cond b NoChain (ChainOf (length fs))) (sym (ne-eqb (length fs) 0 (λ z. omega arith))) in
             let here : Done A value card next (record { leg = noted (ChainOf count) leg; row = row-of fs; cost = λ _. x }) = record {
               note-is = chain-note;
               found = λ d. inr (record { inner = ms; row-is = refl; chain = chain; costs = sym costs; least = λ ws w. held .1 _ (ws, w, refl) }, follows);
@@ -102,7 +102,7 @@ module _ {A : Algebra} (L : Lawful A) {C : Type 0} (value : C → A .Value) (n :
               written = put-written p k inside room (ChainOf count) (row-of fs) long x;
               others = put-other p k inside room (ChainOf count) (row-of fs) long x;
               done = subst (Done A value card next) (sym (put-here p k inside room (ChainOf count) (row-of fs) long x))
-                (subst (λ l. Done A value card next (record { leg = noted (ChainOf count) l; row = row-of fs; cost = λ _. x })) is here);
+                  (subst (λ l. Done A value card next (record { leg = noted (ChainOf count) l; row = row-of fs; cost = λ _. x })) is here);
             })
 
   -- chains that end in the same format agree from where they meet
@@ -121,9 +121,9 @@ module _ {A : Algebra} (L : Lawful A) {C : Type 0} (value : C → A .Value) (n :
           let sf = row-of-same (path (q .leg .from) (u .inner) (q .leg .to)) fs (sym (u .row-is) ∙ ef) in
           let sg = row-of-same (path (r .leg .from) (v .inner) (r .leg .to)) gs (sym (v .row-is) ∙ eg) in
           λ m ps bs cs ds pf pg.
-            follows-agree next (q .leg .to) (q .leg .from) (r .leg .from) fs gs ps m bs cs ds
-            (subst (Follows next (q .leg .to) (q .leg .from)) sf f)
-            (subst (λ t. Follows next t (r .leg .from) gs) (sym to-is) (subst (Follows next (r .leg .to) (r .leg .from)) sg h)) pf pg
+          follows-agree next (q .leg .to) (q .leg .from) (r .leg .from) fs gs ps m bs cs ds
+          (subst (Follows next (q .leg .to) (q .leg .from)) sf f)
+          (subst (λ t. Follows next t (r .leg .from) gs) (sym to-is) (subst (Follows next (r .leg .to) (r .leg .from)) sg h)) pf pg
 
   module _ (before now : Page C) (s : Progress A value card before now n) where
     -- legs to one format are done by one table of next formats

@@ -15,4 +15,4 @@ pub returns : need.returns
 returns g c =
     ap (λ cell. cell .least)
     (getD-read (c .args .table .now) _ _ (omega (arith, mul-add-lt (c .args .from) (c .args .n) (c .args .to) (c .args .n) (c .pre .inside .0) (c .pre .inside .1)))
-      (c .index-table-from .is) empty)
+    (c .index-table-from .is) empty)

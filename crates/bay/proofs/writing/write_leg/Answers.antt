@@ -31,7 +31,7 @@ write-chain-count-requires g c κs = record {
   leads =
       leg-leads (g .C·Cost·met .lawful) (g .C·Cost .value) (c .args .n) (c .args .table .now) (c .pre .laid) (c .args .next .now)
       (page (booked (c .args .legs .now)) (c .args .costs .now) (c .args .chains .now)) (c .args .k) (c .args .leg) (c .pre .leg .1)
-    (c .pre .traced (c .args .leg .from) (c .if-leg-n .left) (leg-apart (c .args .legs .now) (c .args .k) (c .args .leg) (c .pre .leg .0) (c .pre .leg .1))) (c .pre .few) (c .in-Some .cost) (c .in-Some .ensures tt);
+      (c .pre .traced (c .args .leg .from) (c .if-leg-n .left) (leg-apart (c .args .legs .now) (c .args .k) (c .args .leg) (c .pre .leg .0) (c .pre .leg .1))) (c .pre .few) (c .in-Some .cost) (c .in-Some .ensures tt);
 }
 
 pub returns : need.returns

@@ -67,8 +67,8 @@ returns g c =
     let card = cards-in (g .C·Cost .algebra) (g .C·Cost .value) (c .args .n) (c .args .table .now) in
     let end : c .loop-goal .goal ≡ c .args .n = omega arith in
     let all : Progress (g .C·Cost .algebra) (g .C·Cost .value) card before now (c .args .n) =
-      subst (Progress (g .C·Cost .algebra) (g .C·Cost .value) card before now) end
-      (progress-since (g .C·Cost .algebra) (g .C·Cost .value) card before _ now (c .loop-goal .goal) (c .clear-legs .ensures .written) (c .loop-goal .inv .0)) in
+    subst (Progress (g .C·Cost .algebra) (g .C·Cost .value) card before now) end
+    (progress-since (g .C·Cost .algebra) (g .C·Cost .value) card before _ now (c .loop-goal .goal) (c .clear-legs .ensures .written) (c .loop-goal .inv .0)) in
     record {
       routed = all-routed (g .C·Cost·met .lawful) (g .C·Cost .value) (c .args .n) (c .args .table .now) (c .pre .laid) before now all;
       chains = all .written .chains;
