@@ -6,3 +6,4 @@ pub mod Bays
 pub mod Routes
 pub mod Routing
 pub mod Runs
+pub mod Places

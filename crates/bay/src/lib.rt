@@ -7,6 +7,7 @@ mod legs;
 mod legs_calls;
 mod routing_call;
 mod running;
+mod writing;
 
 pub use bays::Bay;
 pub use calls::Call;

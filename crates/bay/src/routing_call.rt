@@ -12,7 +12,11 @@ use crate::fault::BayFault;
 use crate::judge::judge_room;
 use costs::Cost;
 use registers::Register;
+use crate::writing::write_routes;
 use walks::Cell;
+use walks::MOST_FORMATS;
+use walks::solve;
+use walks::write_loop;
 
 impl<R: Register> Bay<R> {
     // What is judged before a card is looked at: that there are legs, and that the table and the sheets are long enough.
@@ -29,6 +33,18 @@ impl<R: Register> Bay<R> {
         ensures same { λ _. ⌜ plain (Cost·Cost .algebra) (Cost·Cost .value) holds (now (self .exit)) ≡ plain (Cost·Cost .algebra) (Cost·Cost .value) holds (now (self .entry)) ⌝ }
     {
         self.judge_route(table.len(), costs.len(), chains.len())?;
-        Ok(0)
+        let mut ticks = [false; MOST_FORMATS];
+        match solve(&self.register, table) {
+            Some(h) => {
+                write_loop(&self.register, table, h, &mut ticks, chains);
+                self.legs.open_all();
+                Err(BayFault::Loop)
+            }
+            None => {
+                let n = self.register.size();
+                write_routes(&mut self.legs, n, table, &mut ticks, costs, chains);
+                Ok(self.legs.len())
+            }
+        }
     }
 }
