@@ -23,7 +23,7 @@ use Rattle.walks.proofs.Loops.{runs-inside}
 use Rattle.walks.proofs.Runs.{to-runs}
 use Rattle.walks.proofs.Sheets.{chain-leads, chain-of-row, leads-few, length-row-of}
 use Rattle.bay.specs.Leg.{no-leg, noted}
-use Rattle.bay.specs.Places.{Blank, Done, LegDone, Page, Place, Room, Served, page, place}
+use Rattle.bay.specs.Places.{Blank, Done, Found, LegDone, Page, Place, Room, Served, page, place}
 use Rattle.bay.specs.Plain.{ends}
 use Rattle.bay.specs.Routes.{Agree, Reached, Routed, Unreached, no-ends, note-of}
 use Rattle.bay.specs.declared.legs.Leg.{Leg}
@@ -49,7 +49,7 @@ module _ {A : Algebra} (L : Lawful A) {C : Type 0} (value : C → A .Value) (n :
   walk-inside s ms t w = let i = runs-inside L card n (laid .sound) s ms t _ (to-runs L card s ms t w) in (i .0, i .2)
 
   -- where no walk leads, nothing is to be written
-  pub blank-done : (next : List ℕ) (q : Place C) → Blank A value q → ((ms : List ℕ) → Walk A card (path (q .leg .from) ms (q .leg .to)) → ⊥) → Done A value card next q
+  blank-done : (next : List ℕ) (q : Place C) → Blank A value q → ((ms : List ℕ) → Walk A card (path (q .leg .from) ms (q .leg .to)) → ⊥) → Done A value card next q
   blank-done next q b none = record {
     note-is = b .note-is ∙ ap note-of (sym (b .row-is));
     found = λ d. inl (record { row-is = b .row-is; costs = b .costs d; no-walk = none });
@@ -63,7 +63,7 @@ module _ {A : Algebra} (L : Lawful A) {C : Type 0} (value : C → A .Value) (n :
 
   module _ (next : List ℕ) (p : Page C) (k : ℕ) (leg : Leg) (is : leg ≡ getD (p .legs) k no-leg) where
     -- the leg has no chain, and its place is left as it is
-    pub leg-left : Blank A value (place p k) → ((ms : List ℕ) → Walk A card (path (leg .from) ms (leg .to)) → ⊥) → LegDone A value card next k p p
+    leg-left : Blank A value (place p k) → ((ms : List ℕ) → Walk A card (path (leg .from) ms (leg .to)) → ⊥) → LegDone A value card next k p p
     leg-left b none = record { written = written-none p; others = λ j ne. refl; done = blank-done next (place p k) b (subst (λ l. (ms : List ℕ) → Walk A card (path (l .from) ms (l .to)) → ⊥) is none) }
 
     pub leg-outside : Blank A value (place p k) → n ≤ leg .from → LegDone A value card next k p p
@@ -110,11 +110,7 @@ module _ {A : Algebra} (L : Lawful A) {C : Type 0} (value : C → A .Value) (n :
       (fs gs : List ℕ) → q .row ≡ row-of fs → r .row ≡ row-of gs → Agree fs gs
   done-agree next q r a b to-is d fs gs ef eg = go (a .found d) (b .found d)
     where
-      go : Unreached A card (ends (q .leg)) (q .row) (value (q .cost d)) ⊎
-          ((x : Reached A card (ends (q .leg)) (q .row) (value (q .cost d))) × Follows next (q .leg .to) (q .leg .from) (path (q .leg .from) (x .inner) (q .leg .to))) →
-          Unreached A card (ends (r .leg)) (r .row) (value (r .cost d)) ⊎
-          ((x : Reached A card (ends (r .leg)) (r .row) (value (r .cost d))) × Follows next (r .leg .to) (r .leg .from) (path (r .leg .from) (x .inner) (r .leg .to))) →
-          Agree fs gs
+      go : Found A value card next q d → Found A value card next r d → Agree fs gs
       go (inl u) v = subst (λ l. Agree l gs) (row-of-same [] fs (sym (u .row-is) ∙ ef)) (nil-agrees gs)
       go (inr u) (inl v) = subst (λ l. Agree fs l) (row-of-same [] gs (sym (v .row-is) ∙ eg)) (agrees-nil fs)
       go (inr (u, f)) (inr (v, h)) =

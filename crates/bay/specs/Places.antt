@@ -62,10 +62,14 @@ module _ (A : Algebra) {C : Type 0} (value : C → A .Value) where
     pub costs : (d : C) → value (q .cost d) ≡ A .unit
 
   -- the leg has what a route is to find, and its chain is the one that `next` leads along
+  abbrev pub Found : (ℕ → ℕ → Option (A .Value)) → List ℕ → Place C → C → Type 0
+  Found card next q d =
+      Unreached A card (ends (q .leg)) (q .row) (value (q .cost d)) ⊎
+      ((r : Reached A card (ends (q .leg)) (q .row) (value (q .cost d))) × Follows next (q .leg .to) (q .leg .from) (path (q .leg .from) (r .inner) (q .leg .to)))
+
   pub record Done (card : ℕ → ℕ → Option (A .Value)) (next : List ℕ) (q : Place C) : Type 0 where
     pub note-is : q .leg .note ≡ note-of (q .row)
-    pub found : (d : C) → Unreached A card (ends (q .leg)) (q .row) (value (q .cost d)) ⊎
-        ((r : Reached A card (ends (q .leg)) (q .row) (value (q .cost d))) × Follows next (q .leg .to) (q .leg .from) (path (q .leg .from) (r .inner) (q .leg .to)))
+    pub found : (d : C) → Found card next q d
 
   -- leg k is done, and all other places are as they were
   pub record LegDone (card : ℕ → ℕ → Option (A .Value)) (next : List ℕ) (k : ℕ) (before after : Page C) : Type 0 where

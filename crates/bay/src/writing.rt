@@ -4,7 +4,7 @@ ghost use mathlib.Core.Bool.{false};
 ghost use mathlib.Core.List.{map};
 ghost use Prim.Native.Nat.{ℕ, _*_, _<_, _≤_};
 ghost use lib.ListN.{length, getD};
-ghost use Rattle.walks.specs.Cells.{Each, Laid, cards-in, cell};
+ghost use Rattle.walks.specs.Cells.{Each, Laid, cards-in, cell, least-in};
 ghost use Rattle.walks.specs.Sheet.{row-at};
 ghost use Rattle.walks.specs.Tracing.{Clear, Traced};
 ghost use Rattle.walks.specs.Walk.{Gains, Least};
@@ -81,10 +81,10 @@ fn write_leg<C: Cost>(
 )
     requires laid { ⌜ Laid (C·Cost .algebra) (C·Cost .value) n (now table) ⌝ }
     requires few { ⌜ n ≤ 64 ⌝ }
-    requires least { ⌜ Each (C·Cost .algebra) (C·Cost .value) n (now table) (λ s t. Least (C·Cost .algebra) (cards-in (C·Cost .algebra) (C·Cost .value) n (now table)) s t) ⌝ }
+    requires least { ⌜ (leg .from < n → Least (C·Cost .algebra) (cards-in (C·Cost .algebra) (C·Cost .value) n (now table)) (leg .from) (leg .to) (least-in (C·Cost .algebra) (C·Cost .value) n (now table) (leg .from) (leg .to))) ⌝ }
     requires room { ⌜ Room (page (booked (now legs)) (now costs) (now chains)) ⌝ }
     requires leg { ⌜ (k < length (booked (now legs))) × (leg ≡ getD (booked (now legs)) k no-leg) × (leg .to < n) ⌝ }
-    requires traced { ⌜ ((v : ℕ) → v < n → (v ≡ leg .to → ⊥) → Traced (C·Cost .algebra) (C·Cost .value) n (now table) (leg .to) (now next) v) ⌝ }
+    requires traced { ⌜ (leg .from < n → Traced (C·Cost .algebra) (C·Cost .value) n (now table) (leg .to) (now next) (leg .from)) ⌝ }
     requires blank { ⌜ Blank (C·Cost .algebra) (C·Cost .value) (place (page (booked (now legs)) (now costs) (now chains)) k) ⌝ }
     ensures { λ _. ⌜ LegDone (C·Cost .algebra) (C·Cost .value) (cards-in (C·Cost .algebra) (C·Cost .value) n (now (table .entry))) (now (next .entry)) k (page (booked (now (legs .entry))) (now (costs .entry)) (now (chains .entry))) (page (booked (now (legs .exit))) (now (costs .exit)) (now (chains .exit))) ⌝ }
 {

@@ -1,11 +1,12 @@
-use mathlib.Core.Path.{_≡_, ap, subst, sym, _∙_}
+use mathlib.Core.Path.{ap, subst, sym, _∙_}
 use Prim.Native.Nat.{ℕ, _+_, _<_}
 use native.Mathlib.Omega.{arith}
+use lib.ListN.{length}
 use Rattle.walks.specs.Cells.{cards-in}
 use Rattle.walks.specs.Tracing.{Traced}
 use Rattle.bay.specs.Legs.{booked}
 use Rattle.bay.specs.Places.{Blank, page}
-use Rattle.bay.proofs.PlaceSteps.{Serving, page-same, same-number, same-to, serving-none, serving-passes, serving-more, written-room}
+use Rattle.bay.proofs.PlaceSteps.{Serving, leg-apart, page-same, same-number, same-to, serving-none, serving-passes, serving-more, written-room}
 use Rattle.bay.proofs.writing.write_goal.Needs as need
 use Rattle.bay.proofs.writing.write_goal.Needs.{then-leg-goal, else-leg-goal}
 
@@ -20,16 +21,20 @@ write-leg-requires g c κs =
     let now = page (booked (c .loop-k .legs)) (c .loop-k .costs) (c .loop-k .chains) in
     let turn = c .loop-k .inv in
     let k : ℕ = c .loop-k .k in
-    let ends-in = ap (λ leg. leg .to) (sym (c .leg-at-leg .ensures)) ∙ c .if-leg-goal .taken in
+    let leg = c .leg-at-leg .result in
+    let there : k < length (booked (c .loop-k .legs)) = omega (arith, same-number _ _ (turn .written), c .len-k-end .ensures .value) in
+    let inside : leg .to < c .args .n = omega (arith, c .if-leg-goal .taken, c .pre .inside) in
+    let apart = leg-apart (c .loop-k .legs) k leg there (c .leg-at-leg .ensures) in
+    let ends-in = ap (λ l. l .to) (sym (c .leg-at-leg .ensures)) ∙ c .if-leg-goal .taken in
     record {
       laid = c .pre .laid;
       few = c .pre .few;
-      least = c .pre .least;
+      least = λ lt. c .pre .least (leg .from) (leg .to) lt inside apart;
       room = written-room _ _ (turn .written) (c .pre .room);
-      leg = (omega (arith, same-number _ _ (turn .written), c .len-k-end .ensures .value), c .leg-at-leg .ensures, omega (arith, c .if-leg-goal .taken, c .pre .inside));
-      traced =
-          subst (λ t. (v : ℕ) → v < c .args .n → (v ≡ t → ⊥) → Traced (g .C·Cost .algebra) (g .C·Cost .value) (c .args .n) (c .args .table .now) t (c .args .next .now) v)
-          (sym (c .if-leg-goal .taken)) (c .pre .traced);
+      leg = (there, c .leg-at-leg .ensures, inside);
+      traced = λ lt.
+          subst (λ t. Traced (g .C·Cost .algebra) (g .C·Cost .value) (c .args .n) (c .args .table .now) t (c .args .next .now) (leg .from)) (sym (c .if-leg-goal .taken))
+          (c .pre .traced (leg .from) lt (λ e. apart (e ∙ sym (c .if-leg-goal .taken))));
       blank =
           subst (Blank (g .C·Cost .algebra) (g .C·Cost .value)) (sym (turn .onward k (omega arith)))
           (c .pre .awaits k (omega (arith, c .len-k-end .ensures .value)) (sym (same-to _ now (turn .written) k) ∙ ends-in));

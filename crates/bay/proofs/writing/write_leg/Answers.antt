@@ -4,7 +4,6 @@ use borrow.Author.Needs.{needs}
 use lib.ListN.{length}
 use Rattle.bay.specs.Legs.{booked}
 use Rattle.bay.specs.Places.{page}
-use Rattle.bay.proofs.PlaceSteps.{leg-apart}
 use Rattle.bay.proofs.RouteSteps.{leg-outside, leg-none, leg-leads, leg-written}
 use Rattle.bay.proofs.writing.write_leg.Needs as need
 
@@ -17,7 +16,7 @@ pub returns-in-rest : need.returns-in-rest
 returns-in-rest g c =
     leg-none (g .C·Cost·met .lawful) (g .C·Cost .value) (c .args .n) (c .args .table .now) (c .pre .laid) (c .args .next .now)
     (page (booked (c .args .legs .now)) (c .args .costs .now) (c .args .chains .now)) (c .args .k) (c .args .leg) (c .pre .leg .1)
-    (c .pre .traced (c .args .leg .from) (c .if-leg-n .left) (leg-apart (c .args .legs .now) (c .args .k) (c .args .leg) (c .pre .leg .0) (c .pre .leg .1))) (c .pre .blank) (c .in-rest .ensures tt)
+    (c .pre .traced (c .if-leg-n .left)) (c .pre .blank) (c .in-rest .ensures tt)
 
 pub offset-costs-k : need.offset-costs-k
 offset-costs-k g c = let here : c .args .k < length (c .args .costs .now) = omega (arith, c .pre .room .entries) in search needs
@@ -31,12 +30,12 @@ write-chain-count-requires g c κs = record {
   leads =
       leg-leads (g .C·Cost·met .lawful) (g .C·Cost .value) (c .args .n) (c .args .table .now) (c .pre .laid) (c .args .next .now)
       (page (booked (c .args .legs .now)) (c .args .costs .now) (c .args .chains .now)) (c .args .k) (c .args .leg) (c .pre .leg .1)
-      (c .pre .traced (c .args .leg .from) (c .if-leg-n .left) (leg-apart (c .args .legs .now) (c .args .k) (c .args .leg) (c .pre .leg .0) (c .pre .leg .1))) (c .pre .few) (c .in-Some .cost) (c .in-Some .ensures tt);
+      (c .pre .traced (c .if-leg-n .left)) (c .pre .few) (c .in-Some .cost) (c .in-Some .ensures tt);
 }
 
 pub returns : need.returns
 returns g c =
     leg-written (g .C·Cost·met .lawful) (g .C·Cost .value) (c .args .n) (c .args .table .now) (c .pre .laid) (c .args .next .now)
     (page (booked (c .args .legs .now)) (c .args .costs .now) (c .args .chains .now)) (c .args .k) (c .args .leg) (c .pre .leg .1)
-    (c .pre .traced (c .args .leg .from) (c .if-leg-n .left) (leg-apart (c .args .legs .now) (c .args .k) (c .args .leg) (c .pre .leg .0) (c .pre .leg .1))) (c .pre .few) (c .in-Some .cost) (c .in-Some .ensures tt)
-    (c .pre .least (c .args .leg .from) (c .args .leg .to) (c .if-leg-n .left) (c .pre .leg .2) (leg-apart (c .args .legs .now) (c .args .k) (c .args .leg) (c .pre .leg .0) (c .pre .leg .1))) (c .pre .leg .0) (c .pre .room) (c .write-chain-count .result) _ _ (c .write-chain-count .ensures .written) (c .set-note .ensures)
+    (c .pre .traced (c .if-leg-n .left)) (c .pre .few) (c .in-Some .cost) (c .in-Some .ensures tt) (c .pre .least (c .if-leg-n .left)) (c .pre .leg .0)
+    (c .pre .room) (c .write-chain-count .result) _ _ (c .write-chain-count .ensures .written) (c .set-note .ensures)
