@@ -21,7 +21,7 @@ length-booked l = length-take-le (l .count) (l .list) (omega (arith, l .long, l 
 
 module _ {X : Type 0} (d : X) where
   -- lists that agree at each place
-  alike : (xs ys : List X) → length xs ≡ length ys → ((k : ℕ) → k < length xs → getD xs k d ≡ getD ys k d) → xs ≡ ys
+  pub alike : (xs ys : List X) → length xs ≡ length ys → ((k : ℕ) → k < length xs → getD xs k d ≡ getD ys k d) → xs ≡ ys
   alike xs ys long same =
       same-lists xs ys long (λ k e h. getD-default xs k e d h ∙ same k h ∙ getD-default ys k d e (omega arith))
 

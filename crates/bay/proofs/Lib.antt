@@ -3,3 +3,4 @@ pub mod Granted
 pub mod LegCalls
 pub mod PlaceSteps
 pub mod RouteSteps
+pub mod RouteCall

@@ -88,7 +88,7 @@ module _ {A : Algebra} (L : Lawful A) {C : Type 0} (value : C → A .Value) (n :
             let (ms, chain, costs, follows) = traced-some in
             let fs : List ℕ = path (leg .from) ms (leg .to) in
             let (counted, row-put) = told fs follows in
-            let long = length-row-of fs (leads-few next (leg .to) (leg .from) leg-leads fs follows) in
+            let long = length-row-of fs (leads-few 65 next (leg .to) (leg .from) leg-leads fs follows) in
             let held : Least A card (leg .from) (leg .to) (Some (value x)) = subst (λ o. Least A card (leg .from) (leg .to) (mapped value o)) (sym e) least in
             let q : Page C = put p k (ChainOf count) (row-of fs) x in
             let same : page legs (set (p .costs) k x) chains ≡ q = λ i. page (noted-is i) (set (p .costs) k x) (row-put i) in

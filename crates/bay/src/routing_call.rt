@@ -33,6 +33,7 @@ impl<R: Register> Bay<R> {
         ensures same { λ _. ⌜ plain (Cost·Cost .algebra) (Cost·Cost .value) holds (now (self .exit)) ≡ plain (Cost·Cost .algebra) (Cost·Cost .value) holds (now (self .entry)) ⌝ }
     {
         self.judge_route(table.len(), costs.len(), chains.len())?;
+        let n = self.register.size();
         let mut ticks = [false; MOST_FORMATS];
         match solve(&self.register, table) {
             Some(h) => {
@@ -41,7 +42,6 @@ impl<R: Register> Bay<R> {
                 Err(BayFault::Loop)
             }
             None => {
-                let n = self.register.size();
                 write_routes(&mut self.legs, n, table, &mut ticks, costs, chains);
                 Ok(self.legs.len())
             }
