@@ -4,3 +4,4 @@ pub mod LegCalls
 pub mod PlaceSteps
 pub mod RouteSteps
 pub mod RouteCall
+pub mod Answering

@@ -49,5 +49,40 @@ impl<C: Cost> Routes<C> {
         let _ = self.costs.extend_from_slice(&costs[0..legs]);
         let _ = self.chains.extend_from_slice(&chains[0..ROW * legs]);
     }
+
+    // Row 0 alone.
+    fn into_row(self, chains: &[u8]) -> Vec<u8>
+        requires reserved { ⌜ Reserved self ⌝ }
+        requires row { ⌜ 66 ≤ length (now chains) ⌝ }
+        ensures { λ r. ⌜ vec-items r ≡ take 66 (now (chains .entry)) ⌝ }
+    {
+        let Routes { costs: _, chains: mut row } = self;
+        let _ = row.extend_from_slice(&chains[0..ROW]);
+        row
+    }
 }
 
+
+impl<R: Register> Bay<R> {
+    // A route with its answer: what it wrote, taken from the sheets. The room for that is there before it begins.
+    fn route_answer(&mut self, mut told: Routes<R::Cost>, table: &mut [Cell<R::Cost>], costs: &mut [R::Cost], chains: &mut [u8]) -> Answer<R::Cost>
+        requires { ⌜ Reserved told ⌝ }
+        ensures right { λ r. ⌜ Right (Cost·Cost .algebra) (Cost·Cost .value) (record { cells = length (now (table .entry)); entries = length (now (costs .entry)); bytes = length (now (chains .entry)) }) (plain (Cost·Cost .algebra) (Cost·Cost .value) holds (now (self .entry))) (booked (now (self .entry) .legs)) Route r ⌝ }
+        ensures same { λ _. ⌜ plain (Cost·Cost .algebra) (Cost·Cost .value) holds (now (self .exit)) ≡ plain (Cost·Cost .algebra) (Cost·Cost .value) holds (now (self .entry)) ⌝ }
+        ensures legs { λ r. ⌜ booked (now (self .exit) .legs) ≡ route-notes r (booked (now (self .entry) .legs)) ⌝ }
+        ensures table { λ _. ⌜ Beyond (holds (now (self .entry) .register) .size * holds (now (self .entry) .register) .size) (now (table .entry)) (now (table .exit)) ⌝ }
+        ensures costs { λ r. ⌜ now (costs .exit) ≡ costs-step (now (costs .entry)) r ⌝ }
+        ensures chains { λ r. ⌜ now (chains .exit) ≡ chains-step (now (chains .entry)) r ⌝ }
+    {
+        match self.route(table, costs, chains) {
+            Ok(legs) => {
+                told.fill(legs, costs, chains);
+                Answer::Routed(told)
+            }
+            Err(fault) => match fault {
+                BayFault::Loop => Answer::Looped(told.into_row(chains)),
+                _ => Answer::Refused(fault),
+            },
+        }
+    }
+}
