@@ -28,9 +28,10 @@ use Rattle.bay.specs.Leg.{no-leg, noted}
 use Rattle.bay.specs.Plain.{Ends, Plain, room-causes}
 use Rattle.bay.specs.Routes.{Looped, Reached, Routed, Unreached, note-of, no-ends}
 use Rattle.bay.specs.Routing.{Beyond, Desk, Found-loop, Granted, RouteAnswer, Turned-away}
-use Rattle.bay.specs.Runs.{Right, Room, chains-step, costs-step, over, route-notes, with-notes}
+use Rattle.bay.specs.Runs.{CallDone, Right, Room, chains-step, costs-step, over, route-notes, with-notes}
 use Rattle.bay.specs.declared.calls.Answer.{Answer}
 use Rattle.bay.specs.declared.calls.Answer.the-variants.{Routed as RoutedAnswer, Looped as LoopedAnswer, Refused}
+use Rattle.bay.specs.declared.calls.Call.{Call}
 use Rattle.bay.specs.declared.calls.Call.the-variants.{Route}
 use Rattle.bay.specs.declared.calls.Routes.{Routes}
 use Rattle.std.specs.declared.alloc.Global.{Global}
@@ -208,3 +209,8 @@ module _ (A : Algebra) {C : Type 0} (value : C → A .Value) (p : Plain (A .Valu
   told-table r (inl t) = subst (λ x. Beyond (p .register .size * p .register .size) (before .table) (x .table)) (sym (t .same)) (record { long = refl; same = λ k d h. refl })
   told-table r (inr (inl f)) = f .table
   told-table r (inr (inr g)) = g .table
+
+-- a call that was taken apart is the call that was given
+pub call-given : (A : Algebra) {C : Type 0} (value : C → A .Value) (p p′ : Plain (A .Value)) (before now : Desk C) (call taken : Call C) (answer : Answer C) → call ≡ taken →
+    CallDone A value p p′ before now taken answer → CallDone A value p p′ before now call answer
+call-given A value p p′ before now call taken answer e d = subst (λ k. CallDone A value p p′ before now k answer) (sym e) d

@@ -5,6 +5,7 @@ use mathlib.Core.List.{List, [], _∷_, _++_}
 use mathlib.Core.Logic.{_⊎_}
 use Prim.Native.Nat.{ℕ, suc, _*_, _≤_, _<_}
 use lib.ListN.{length, getD, take, drop}
+use Rattle.std.specs.Iters.{folded}
 use Rattle.std.specs.Of.Vec.{vec-items, vec-len, vec-cap}
 use Rattle.std.specs.declared.alloc.Global.{Global}
 use Rattle.std.specs.declared.vec.Vec.{Vec}
@@ -21,6 +22,7 @@ use Rattle.bay.specs.Leg.{no-leg, noted, open-leg}
 use Rattle.bay.specs.Legs.{opened, struck}
 use Rattle.bay.specs.Plain.{Plain, book-causes, leg-causes, route-causes, row-bytes, step}
 use Rattle.bay.specs.Routes.{note-of}
+use Rattle.bay.specs.Routing.{Beyond, Desk}
 use Rattle.bay.specs.Routes as routes
 use Rattle.bay.specs.declared.calls.Answer.{Answer}
 use Rattle.bay.specs.declared.calls.Answer.the-variants.{Entered, Withdrawn, Booked, Struck, Shown, Routed, Looped, Refused}
@@ -143,3 +145,31 @@ legs-after legs (call ∷ calls) (answer ∷ answers) = legs-after (legs-step le
 pub record RunLaw (A : Algebra) {C : Type 0} (value : C → A .Value) (room : Room) (p : Plain (A .Value)) (legs : List Leg) (calls : List (Call C)) (answers : List (Answer C)) : Type 0 where
   pub each-answered : length answers ≡ length calls
   pub right : (i : ℕ) → i < length calls → Right A value room (plain-after A value p (take i calls)) (legs-after legs (take i calls) (take i answers)) (getD calls i Route) (getD answers i Entered)
+
+module _ (A : Algebra) {C : Type 0} (value : C → A .Value) where
+  abbrev pub room-for : Desk C → Room
+  room-for d = record { cells = length (d .table); entries = length (d .costs); bytes = length (d .chains) }
+
+  -- One call with its answer: the answer is the plain bay's, and the plain bay, the legs with their notes, the table and the
+  -- sheets are then what the call and the answer make of them.
+  pub record CallDone (p p′ : Plain (A .Value)) (before now : Desk C) (call : Call C) (answer : Answer C) : Type 0 where
+    pub right : Right A value (room-for before) p (before .legs) call answer
+    pub plain-is : p′ ≡ step A value p call
+    pub legs : now .legs ≡ legs-step (before .legs) call answer
+    pub table : Beyond (p .register .size * p .register .size) (before .table) (now .table)
+    pub costs : now .costs ≡ costs-step (before .costs) answer
+    pub chains : now .chains ≡ chains-step (before .chains) answer
+
+  -- no call was made
+  pub record Unmade (p p′ : Plain (A .Value)) (before now : Desk C) : Type 0 where
+    pub plain-is : p′ ≡ p
+    pub desk : now ≡ before
+
+  -- A list of calls with its answers: the law over the run, and what the run leaves.
+  pub record RunDone (p p′ : Plain (A .Value)) (before now : Desk C) (calls : List (Call C)) (answers : List (Answer C)) : Type 0 where
+    pub law : RunLaw A value (room-for before) p (before .legs) calls answers
+    pub plain-is : p′ ≡ plain-after A value p calls
+    pub legs : now .legs ≡ legs-after (before .legs) calls answers
+    pub table : Beyond (p .register .size * p .register .size) (before .table) (now .table)
+    pub costs : now .costs ≡ folded costs-step (before .costs) answers
+    pub chains : now .chains ≡ folded chains-step (before .chains) answers

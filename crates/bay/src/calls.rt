@@ -34,3 +34,9 @@ pub enum Answer<C> {
     Looped(Vec<u8>),
     Refused(BayFault),
 }
+
+// Memory ran out: the answers of the calls that were made. The calls after them were not.
+#[derive(Drop)]
+pub struct Stopped<C> {
+    pub answers: Vec<Answer<C>>,
+}

@@ -9,7 +9,7 @@ ghost use Rattle.bay.specs.Bays.{plain};
 ghost use Rattle.bay.specs.Legs.{booked};
 ghost use Rattle.bay.specs.Plain.{step};
 ghost use Rattle.bay.specs.Routing.{Beyond};
-ghost use Rattle.bay.specs.Runs.{Reserved, Right, RunLaw, chains-step, costs-step, legs-step, legs-after, plain-after, route-notes};
+ghost use Rattle.bay.specs.Runs.{CallDone, Reserved, Right, RunDone, Unmade, chains-step, costs-step, route-notes};
 ghost use Rattle.bay.specs.declared.calls.Call.the-variants.{Route};
 use crate::bays::Bay;
 use crate::calls::Answer;
@@ -83,6 +83,38 @@ impl<R: Register> Bay<R> {
                 BayFault::Loop => Answer::Looped(told.into_row(chains)),
                 _ => Answer::Refused(fault),
             },
+        }
+    }
+
+    // Any one call. Want of memory for what a route would write is found before it begins, and then nothing is done.
+    pub fn call(&mut self, heap: Global, call: Call<R::Cost>, table: &mut [Cell<R::Cost>], costs: &mut [R::Cost], chains: &mut [u8]) -> Result<Answer<R::Cost>, AllocError>
+        ensures { λ r. ⌜ Cases r (λ answer. CallDone (Cost·Cost .algebra) (Cost·Cost .value) (plain (Cost·Cost .algebra) (Cost·Cost .value) holds (now (self .entry))) (plain (Cost·Cost .algebra) (Cost·Cost .value) holds (now (self .exit))) (record { legs = booked (now (self .entry) .legs); table = now (table .entry); costs = now (costs .entry); chains = now (chains .entry) }) (record { legs = booked (now (self .exit) .legs); table = now (table .exit); costs = now (costs .exit); chains = now (chains .exit) }) call answer) (λ _. Unmade (Cost·Cost .algebra) (Cost·Cost .value) (plain (Cost·Cost .algebra) (Cost·Cost .value) holds (now (self .entry))) (plain (Cost·Cost .algebra) (Cost·Cost .value) holds (now (self .exit))) (record { legs = booked (now (self .entry) .legs); table = now (table .entry); costs = now (costs .entry); chains = now (chains .entry) }) (record { legs = booked (now (self .exit) .legs); table = now (table .exit); costs = now (costs .exit); chains = now (chains .exit) })) ⌝ }
+    {
+        match call {
+            Call::Enter { from, to, cost } => match self.enter(from, to, cost) {
+                Ok(()) => Ok(Answer::Entered),
+                Err(fault) => Ok(Answer::Refused(fault)),
+            },
+            Call::Withdraw { from, to } => match self.withdraw(from, to) {
+                Ok(()) => Ok(Answer::Withdrawn),
+                Err(fault) => Ok(Answer::Refused(fault)),
+            },
+            Call::Book { from, to } => match self.book(from, to) {
+                Ok(number) => Ok(Answer::Booked(number)),
+                Err(fault) => Ok(Answer::Refused(fault)),
+            },
+            Call::Strike { leg } => match self.strike(leg) {
+                Ok(()) => Ok(Answer::Struck),
+                Err(fault) => Ok(Answer::Refused(fault)),
+            },
+            Call::Show { leg } => match self.show(leg) {
+                Ok(shown) => Ok(Answer::Shown(shown)),
+                Err(fault) => Ok(Answer::Refused(fault)),
+            },
+            Call::Route => {
+                let told = Routes::reserve(heap)?;
+                Ok(self.route_answer(told, table, costs, chains))
+            }
         }
     }
 }
