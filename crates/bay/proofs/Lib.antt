@@ -5,3 +5,4 @@ pub mod PlaceSteps
 pub mod RouteSteps
 pub mod RouteCall
 pub mod Answering
+pub mod RunSteps

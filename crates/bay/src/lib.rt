@@ -10,7 +10,10 @@ mod running;
 mod writing;
 
 pub use bays::Bay;
+pub use calls::Answer;
 pub use calls::Call;
+pub use calls::Routes;
+pub use calls::Stopped;
 pub use fault::BayFault;
 pub use fault::BayFaultFromRegister;
 pub use legs::Leg;

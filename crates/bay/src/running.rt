@@ -15,6 +15,7 @@ use crate::bays::Bay;
 use crate::calls::Answer;
 use crate::calls::Call;
 use crate::calls::Routes;
+use crate::calls::Stopped;
 use crate::fault::BayFault;
 use crate::legs::MOST_LEGS;
 use costs::Cost;
@@ -116,5 +117,23 @@ impl<R: Register> Bay<R> {
                 Ok(self.route_answer(told, table, costs, chains))
             }
         }
+    }
+
+    // A list of calls, in their order, each with its answer. Every answer is the plain bay's, whatever came before it.
+    pub fn run(&mut self, heap: Global, calls: &[Call<R::Cost>], table: &mut [Cell<R::Cost>], costs: &mut [R::Cost], chains: &mut [u8]) -> Result<Vec<Answer<R::Cost>>, Stopped<R::Cost>>
+        ensures { λ r. ⌜ Cases r (λ answers. RunDone (Cost·Cost .algebra) (Cost·Cost .value) (plain (Cost·Cost .algebra) (Cost·Cost .value) holds (now (self .entry))) (plain (Cost·Cost .algebra) (Cost·Cost .value) holds (now (self .exit))) (record { legs = booked (now (self .entry) .legs); table = now (table .entry); costs = now (costs .entry); chains = now (chains .entry) }) (record { legs = booked (now (self .exit) .legs); table = now (table .exit); costs = now (costs .exit); chains = now (chains .exit) }) (now (calls .entry)) (vec-items answers)) (λ stopped. RunDone (Cost·Cost .algebra) (Cost·Cost .value) (plain (Cost·Cost .algebra) (Cost·Cost .value) holds (now (self .entry))) (plain (Cost·Cost .algebra) (Cost·Cost .value) holds (now (self .exit))) (record { legs = booked (now (self .entry) .legs); table = now (table .entry); costs = now (costs .entry); chains = now (chains .entry) }) (record { legs = booked (now (self .exit) .legs); table = now (table .exit); costs = now (costs .exit); chains = now (chains .exit) }) (take (length (vec-items (stopped .answers))) (now (calls .entry))) (vec-items (stopped .answers))) ⌝ }
+    {
+        let Ok(mut answers) = Vec::with_capacity(heap, calls.len()) else {
+            return Err(Stopped {
+                answers: Vec::new(heap),
+            });
+        };
+        for call in calls {
+            match self.call(heap, *call, table, costs, chains) {
+                Ok(answer) => answers.push_reserved(answer),
+                Err(_) => return Err(Stopped { answers }),
+            }
+        }
+        Ok(answers)
     }
 }
