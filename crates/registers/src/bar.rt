@@ -43,7 +43,7 @@ impl<R> Bar<R> {
 
     // The register below, as it now is.
     pub fn into_below(self) -> R
-        ensures { λ r. ⌜ r ≡ self .below ⌝ }
+        ensures value { λ r. ⌜ r ≡ self .below ⌝ }
     {
         let Bar { below, bits: _ } = self;
         below

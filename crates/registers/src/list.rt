@@ -155,7 +155,7 @@ fn remove<C: Cost>(n: usize, entries: &mut [Option<Entry<C>>], from: Format, to:
 impl<'a, C: Cost> List<'a, C> {
     // Whether a list of n formats can be made in this memory, or the first cause why not.
     pub fn check(n: usize, entries: &[Option<Entry<C>>]) -> Result<(), RegisterFault>
-        ensures { λ r. ⌜ refusal r ≡ first-cause (list-causes n (length (now (entries .entry)))) ⌝ }
+        ensures answer { λ r. ⌜ refusal r ≡ first-cause (list-causes n (length (now (entries .entry)))) ⌝ }
     {
         if !size_fits(n) {
             Err(RegisterFault::SizeUnfit)

@@ -47,7 +47,7 @@ fn cost_at<C: Cost>(places: &[Option<C>], place: usize) -> Option<C>
 impl<'a, C: Cost> Matrix<'a, C> {
     // Whether a matrix of n formats can be made in this memory, or the first cause why not.
     pub fn check(n: usize, places: &[Option<C>]) -> Result<(), RegisterFault>
-        ensures { λ r. ⌜ refusal r ≡ first-cause (matrix-causes n (length (now (places .entry)))) ⌝ }
+        ensures answer { λ r. ⌜ refusal r ≡ first-cause (matrix-causes n (length (now (places .entry)))) ⌝ }
     {
         if !size_fits(n) {
             Err(RegisterFault::SizeUnfit)
