@@ -1,12 +1,12 @@
 // Walks over the cards of a register: what they cost, and which cost least.
+// `price` is for anybody. The search, the trace and the rows are pub only for our own crates, and ask something of their callers.
 mod cells;
 mod eliminate;
 mod pricing;
 mod rows;
 mod search;
+mod theory;
 mod trail;
-
-ghost use Rattle.walks.specs.Cells.{Laid};
 
 pub use cells::Cell;
 pub use eliminate::first_stage;
@@ -19,5 +19,6 @@ pub use rows::write_chain;
 pub use rows::write_no_chain;
 pub use search::solve;
 pub use search::write_loop;
+pub use theory::theorems;
 pub use trail::MOST_FORMATS;
 pub use trail::trace;
