@@ -6,3 +6,4 @@ pub mod RouteSteps
 pub mod RouteCall
 pub mod Answering
 pub mod RunSteps
+pub mod OneAfterOther

@@ -6,4 +6,5 @@ pub mod Bays
 pub mod Routes
 pub mod Routing
 pub mod Runs
+pub mod OneByOne
 pub mod Places
