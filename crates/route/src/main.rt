@@ -1,53 +1,137 @@
-// Reads a chain of formats from standard input and prices it over the house table, card by card.
+// Routes legs over the house table. Standard input has a leg a line, as `4 2`; a line `bar 0` takes a format out of use.
+use bay::Answer;
+use bay::Bay;
+use bay::Call;
+use bay::Routes;
+use bay::Stopped;
 use costs::Delay;
+use costs::DelayCost;
+use registers::Bar;
+use registers::BarRegister;
 use registers::HouseRegister;
 use registers::HouseTable;
-use registers::Register;
 use std::alloc::Global;
 use std::error::AnyError;
-use walks::Unpriced;
-use walks::price;
+use walks::Cell;
+use walks::ROW;
 
-// The numbers in the text, which white space parts.
-fn formats(heap: Global, text: &str) -> Result<Vec<usize>, AnyError> {
-    let mut all = Vec::new(heap);
-    for word in text.split_whitespace() {
-        match word.parse::<usize>() {
-            Ok(format) => all.push(format)?,
-            Err(_) => return Err("a format is a whole number: write them as 4 3 0 2".into()),
-        }
-    }
-    Ok(all)
+const NOTHING: Cell<Delay> = Cell {
+    card: None,
+    least: None,
+};
+
+// What the input asks for: the formats that are barred, and the calls to make.
+#[derive(Drop)]
+struct Job {
+    bars: u64,
+    calls: Vec<Call<Delay>>,
 }
 
-// A line for each card of the chain, up to the first that is missing.
-fn print_cards(rt: &LibcRuntime, table: &HouseTable, chain: &[usize]) -> Result<(), AnyError> {
-    for pair in chain.windows(2) {
-        let from = pair[0];
-        let to = pair[1];
-        match table.card(from, to) {
-            Some(Delay { lines }) => println!(rt, "{from} to {to}: {lines}")?,
-            None => break,
+fn number(word: Option<&str>) -> Result<usize, AnyError> {
+    match word {
+        Some(text) => match text.parse::<usize>() {
+            Ok(value) => Ok(value),
+            Err(_) => Err("a format is a whole number".into()),
+        },
+        None => Err("a line has two formats, or bar and a format".into()),
+    }
+}
+
+// One line of the input.
+fn read(job: &mut Job, line: &str) -> Result<(), AnyError> {
+    let mut words = line.split_whitespace();
+    let first = words.next();
+    let second = words.next();
+    if first == Some("bar") {
+        let format = number(second)?;
+        if format < 64 {
+            job.bars |= 1 << format;
+        }
+        return Ok(());
+    }
+    let from = number(first)?;
+    let to = number(second)?;
+    job.calls.push(Call::Book { from, to })?;
+    Ok(())
+}
+
+fn read_job(rt: &LibcRuntime) -> Result<Job, AnyError> {
+    let mut job = Job {
+        bars: 0,
+        calls: Vec::new(rt.alloc()),
+    };
+    for line in rt.lines(rt.alloc()) {
+        read(&mut job, line?.as_str())?;
+    }
+    job.calls.push(Call::Route)?;
+    Ok(job)
+}
+
+// The formats of row k, as `4 3 0 2`.
+fn print_row(rt: &LibcRuntime, chains: &[u8], k: usize) -> Result<(), AnyError> {
+    let from = ROW.saturating_mul(k);
+    let count = chains.get(from).copied().unwrap_or(0) as usize;
+    for format in chains.iter().skip(from.saturating_add(1)).take(count) {
+        print!(rt, " {format}")?;
+    }
+    println!(rt, "")?;
+    Ok(())
+}
+
+fn print_routes(rt: &LibcRuntime, routes: &Routes<Delay>) -> Result<(), AnyError> {
+    for (k, cost) in routes.costs.as_slice().iter().enumerate() {
+        let chains = routes.chains.as_slice();
+        if chains.get(ROW.saturating_mul(k)).copied().unwrap_or(0) == 0 {
+            println!(rt, "leg {k}: none")?;
+        } else {
+            let lines = cost.lines;
+            print!(rt, "leg {k}: {lines} by")?;
+            print_row(rt, chains, k)?;
         }
     }
     Ok(())
 }
 
-fn run(rt: &LibcRuntime) -> Result<(), AnyError> {
-    let mut text = String::new(rt.alloc());
-    let _ = rt.read_line(&mut text)?;
-    let chain = formats(rt.alloc(), text.as_str())?;
-    let table = HouseTable;
-    print_cards(rt, &table, chain.as_slice())?;
-    match price(&table, chain.as_slice()) {
-        Ok(Delay { lines }) => println!(rt, "the chain costs {lines}")?,
-        Err(Unpriced::Short) => println!(rt, "a chain has two formats or more")?,
-        Err(Unpriced::Long) => println!(rt, "a chain has at most 257 formats")?,
-        Err(Unpriced::NoCard(place)) => println!(rt, "no card leads on from place {place} of the chain")?,
+fn print_answer(rt: &LibcRuntime, answer: &Answer<Delay>) -> Result<(), AnyError> {
+    match answer {
+        Answer::Routed(routes) => print_routes(rt, routes)?,
+        Answer::Looped(row) => {
+            print!(rt, "a loop gains time:")?;
+            print_row(rt, row.as_slice(), 0)?;
+        }
+        Answer::Refused(fault) => {
+            let code = fault.code();
+            let number = code.number;
+            let part = code.part;
+            println!(rt, "refused: {number}, part {part}")?;
+        }
+        _ => {}
     }
     Ok(())
+}
+
+fn print_answers(rt: &LibcRuntime, answers: &[Answer<Delay>]) -> Result<(), AnyError> {
+    for answer in answers {
+        print_answer(rt, answer)?;
+    }
+    Ok(())
+}
+
+// Makes the calls on a new bay over the house table, and prints what came of them.
+fn serve(rt: &LibcRuntime, job: Job) -> Result<(), AnyError> {
+    let mut bay = Bay::new(Bar::new(HouseTable, job.bars));
+    let mut table = [NOTHING; 64];
+    let mut costs = [Delay { lines: 0 }; 32];
+    let mut chains = [255; 2112];
+    match bay.run(rt.alloc(), job.calls.as_slice(), &mut table, &mut costs, &mut chains) {
+        Ok(answers) => print_answers(rt, answers.as_slice()),
+        Err(Stopped { answers: _ }) => Err("there is no memory".into()),
+    }
 }
 
 fn main(rt: LibcRuntime) -> Result<(), AnyError> {
-    rt.report(run(&rt))
+    match read_job(&rt) {
+        Ok(job) => rt.report(serve(&rt, job)),
+        Err(error) => rt.report(Err(error)),
+    }
 }
