@@ -1,4 +1,5 @@
-// Routes legs over the house table. Standard input has a leg a line, as `4 2`; a line `bar 0` takes a format out of use.
+// Routes legs over the house table. Standard input has a leg a line, as `4 2`; a line `bar 0` asks for the legs once more
+// with that format out of use.
 use bay::Answer;
 use bay::Bay;
 use bay::Call;
@@ -117,21 +118,30 @@ fn print_answers(rt: &LibcRuntime, answers: &[Answer<Delay>]) -> Result<(), AnyE
     Ok(())
 }
 
-// Makes the calls on a new bay over the house table, and prints what came of them.
-fn serve(rt: &LibcRuntime, job: Job) -> Result<(), AnyError> {
-    let mut bay = Bay::new(Bar::new(HouseTable, job.bars));
+// Makes the calls on a new bay over the house table under these bars, and prints what came of them.
+fn serve(rt: &LibcRuntime, bars: u64, calls: &[Call<Delay>]) -> Result<(), AnyError> {
+    let mut bay = Bay::new(Bar::new(HouseTable, bars));
     let mut table = [NOTHING; 64];
     let mut costs = [Delay { lines: 0 }; 32];
     let mut chains = [255; 2112];
-    match bay.run(rt.alloc(), job.calls.as_slice(), &mut table, &mut costs, &mut chains) {
+    match bay.run(rt.alloc(), calls, &mut table, &mut costs, &mut chains) {
         Ok(answers) => print_answers(rt, answers.as_slice()),
         Err(Stopped { answers: _ }) => Err("there is no memory".into()),
     }
 }
 
-fn main(rt: LibcRuntime) -> Result<(), AnyError> {
-    match read_job(&rt) {
-        Ok(job) => rt.report(serve(&rt, job)),
-        Err(error) => rt.report(Err(error)),
+// The bare table, and where formats are barred the same legs once more under the bars.
+fn run(rt: &LibcRuntime) -> Result<(), AnyError> {
+    let job = read_job(rt)?;
+    println!(rt, "over the house table:")?;
+    serve(rt, 0, job.calls.as_slice())?;
+    if job.bars != 0 {
+        println!(rt, "under the bars:")?;
+        serve(rt, job.bars, job.calls.as_slice())?;
     }
+    Ok(())
+}
+
+fn main(rt: LibcRuntime) -> Result<(), AnyError> {
+    rt.report(run(&rt))
 }
