@@ -1,11 +1,9 @@
 // Registers: which converter cards stand, behind one trait. The layers above are proved over a register's meaning.
+// `judge_ends` is pub only for our own crates: a register of theirs judges its ends by it.
 mod bar;
 mod fault;
 mod house;
 mod judge;
-mod lent;
-mod list;
-mod matrix;
 
 ghost use mathlib.Core.Path.{_≡_};
 ghost use mathlib.Core.Bool.{true};
@@ -30,12 +28,7 @@ pub use fault::RegisterFaultEq;
 pub use fault::RegisterFaultPartialEq;
 pub use house::HouseRegister;
 pub use house::HouseTable;
-pub use list::Entry;
-pub use list::List;
-pub use list::ListRegister;
-pub use list::MOST_ENTRIES;
-pub use matrix::Matrix;
-pub use matrix::MatrixRegister;
+pub use judge::judge_ends;
 
 // A register has at least so many formats.
 pub const LEAST_FORMATS: usize = 2;
