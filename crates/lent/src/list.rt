@@ -10,15 +10,15 @@ ghost use Rattle.registers.specs.Fault.{first-cause, refusal, after};
 ghost use Rattle.registers.specs.Meaning.{entered, withdrawn, enter-causes, withdraw-causes};
 ghost use Rattle.lent.specs.Lent.{admitted-by, begun, possible, how-many};
 ghost use Rattle.lent.specs.List.{entries-fit, list-fits, list-causes, live, cost-for, first-cost, without, listed, list-means, list-cleared, Free, Found, Writable, Full};
+use crate::memory::clear;
+use crate::memory::nearest_size;
+use crate::memory::size_fits;
+use costs::Cost;
 use registers::Format;
 use registers::MOST_FORMATS;
 use registers::Register;
 use registers::RegisterFault;
 use registers::judge_ends;
-use crate::memory::clear;
-use crate::memory::nearest_size;
-use crate::memory::size_fits;
-use costs::Cost;
 
 // A list can use at most so many entries: one for each pair of the most formats.
 pub const MOST_ENTRIES: usize = MOST_FORMATS * (MOST_FORMATS - 1);

@@ -10,15 +10,15 @@ ghost use Rattle.registers.specs.Fault.{first-cause, refusal, after};
 ghost use Rattle.registers.specs.Meaning.{entered, withdrawn, enter-causes, withdraw-causes};
 ghost use Rattle.lent.specs.Lent.{admitted-by, begun, readable};
 ghost use Rattle.lent.specs.Matrix.{matrix-fits, matrix-causes, matrix, matrix-means, matrix-cleared};
-use registers::Format;
-use registers::Register;
-use registers::RegisterFault;
-use registers::judge_ends;
 use crate::memory::clear;
 use crate::memory::nearest_size;
 use crate::memory::readable_cost;
 use crate::memory::size_fits;
 use costs::Cost;
+use registers::Format;
+use registers::Register;
+use registers::RegisterFault;
+use registers::judge_ends;
 
 // A register of `n` formats in the first n × n places of `places`, row by row. Where `n` or the memory will not do,
 // it has no card and no free place, and every pair is sealed.

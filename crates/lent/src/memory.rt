@@ -5,9 +5,9 @@ ghost use Prim.Native.Nat.{_≤_};
 ghost use lib.ListN.{length, drop, replicate};
 ghost use Rattle.std.specs.declared.option.Option.the-variants.{None};
 ghost use Rattle.lent.specs.Lent.{admitted-by, size-fits, nearest-size, readable};
+use costs::Cost;
 use registers::LEAST_FORMATS;
 use registers::MOST_FORMATS;
-use costs::Cost;
 
 // Whether a register can have so many formats.
 pub fn size_fits(n: usize) -> bool
