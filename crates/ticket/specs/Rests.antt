@@ -6,7 +6,7 @@ use Prim.Native.Nat.{ℕ, suc, zero, _+_, _-_, _*_, _<_}
 use lib.Chars.{codes}
 use lib.Dec.{eqb, leb, ltb}
 use lib.IntN.{ℤ, pos, negℤ}
-use lib.ListN.{take, drop}
+use lib.ListN.{length, getD, take, drop}
 use Rattle.std.specs.declared.option.Option.{Option}
 use Rattle.std.specs.declared.option.Option.the-variants.{Some, None}
 use Rattle.ticket.specs.Signs.{digit, letter, line-end}
@@ -180,3 +180,50 @@ to-come r = rest-at (r .state) r
 abbrev pub left : Bool → Reader → Rest
 left true r = to-come r
 left false r = dead
+
+-- the reader at a number, with its digits so far
+abbrev pub at-number : State → Bool → Bool → ℕ → Reader → Reader
+at-number s minus begun n r = record {
+  stage = r .stage;
+  state = s;
+  word = r .word;
+  kind = r .kind;
+  at = r .at;
+  minus = minus;
+  begun = begun;
+  value = n;
+  first = r .first;
+  second = r .second;
+  code = r .code;
+  line = r .line;
+}
+
+abbrev pub begun-at : State → Reader → Reader
+begun-at s r = at-number s false false 0 r
+
+-- one digit more
+abbrev pub takes-digit : Reader → Bool
+takes-digit r = cond (r .begun) (grows (r .value)) true
+
+abbrev pub with-digit : Reader → ℕ → Reader
+with-digit r c = at-number (r .state) (r .minus) true (cond (r .begun) (r .value * 10 + (c - 48)) (c - 48)) r
+
+-- one letter more
+abbrev pub takes-letter : List ℕ → ℕ → ℕ → Bool
+takes-letter letters at c = ltb at (length letters) && eqb (getD letters at 0) c
+
+abbrev pub with-letter : Reader → Reader
+with-letter r = record {
+  stage = r .stage;
+  state = r .state;
+  word = r .word;
+  kind = r .kind;
+  at = r .at + 1;
+  minus = r .minus;
+  begun = r .begun;
+  value = r .value;
+  first = r .first;
+  second = r .second;
+  code = r .code;
+  line = r .line;
+}
