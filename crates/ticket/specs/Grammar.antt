@@ -98,6 +98,14 @@ code-begins from (Card a b cost) = from + length (line-text (Card a b cost))
 code-begins from (Leg a b) = from + length (line-text (Leg a b))
 code-begins from End = from + length (line-text End)
 
+-- the code of a line, if it has one, has four signs
+abbrev pub Coded : Line → Type 0
+Coded (Bay kind n) = Unit {0}
+Coded (Format k code) = length code ≡ 4
+Coded (Card a b cost) = Unit {0}
+Coded (Leg a b) = Unit {0}
+Coded End = Unit {0}
+
 -- From `from` on, the text is the line and then what stands at its end and after.
 pub record IsRead (stage : Stage) (text : List ℕ) (from : ℕ) (read : Read) : Type 0 where
   pub allowed : Allowed stage (read .line)

@@ -92,15 +92,15 @@ not-below a b n = ending (line.Card a b (pos n))
 abbrev pub cost-rest : ℕ → ℕ → Rest
 cost-rest a b = on 45 (number 1 41 (below-zero a b)) (number 0 41 (not-below a b))
 
--- what follows a pair, by the word in front of it
+-- what follows a pair: the end after the word of a leg, and else a cost
 abbrev pub pair-end : Word → ℕ → ℕ → Rest
-pair-end word.Bay a b = dead
-pair-end word.Delay a b = dead
-pair-end word.Depth a b = dead
-pair-end word.Format a b = dead
+pair-end word.Bay a b = fixed (codes " ") (cost-rest a b)
+pair-end word.Delay a b = fixed (codes " ") (cost-rest a b)
+pair-end word.Depth a b = fixed (codes " ") (cost-rest a b)
+pair-end word.Format a b = fixed (codes " ") (cost-rest a b)
 pair-end word.Card a b = fixed (codes " ") (cost-rest a b)
 pair-end word.Leg a b = closing (line.Leg a b)
-pair-end word.End a b = dead
+pair-end word.End a b = fixed (codes " ") (cost-rest a b)
 
 abbrev pub to-rest : Word → ℕ → Rest
 to-rest w a = number 0 41 (λ b. pair-end w a b)

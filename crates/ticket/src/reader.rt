@@ -1,10 +1,11 @@
 // The line reader: it takes the bytes of a line one by one, and knows at each what may still come.
 ghost use mathlib.Core.Path.{_≡_};
 ghost use mathlib.Core.Bool.{true, cond, _||_};
-ghost use Prim.Native.Nat.{_<_, _≤_};
+ghost use Prim.Native.Nat.{_+_, _<_, _≤_};
 ghost use Rattle.ticket.specs.Signs.{digit, letter};
 ghost use Rattle.ticket.specs.declared.reader.State.the-variants.{InWord, InKind, PairEnd, InCode};
-ghost use Rattle.ticket.specs.Grammar.{too-large};
+ghost use lib.ListN.{length};
+ghost use Rattle.ticket.specs.Grammar.{too-large, line-text, Coded, number-begins, code-begins, ReadLine};
 ghost use Rattle.ticket.specs.Rests.{line-rest, to-come, left, after-byte, begun-at, takes-digit, with-digit, takes-letter, with-letter};
 use crate::line::Kind;
 use crate::line::Line;
@@ -34,6 +35,7 @@ pub enum State {
     Over,
 }
 
+#[derive(Drop)]
 pub struct Reader {
     stage: Stage,
     state: State,
@@ -190,23 +192,24 @@ impl Reader {
         true
     }
 
-    // The sign after a pair: a card goes on to its cost, and a leg is at its end.
+    // The sign after a pair: a leg is at its end, and a card goes on to its cost.
     fn leave_pair(&mut self, sign: u8) -> bool
         requires at { ⌜ now self .state ≡ PairEnd ⌝ }
         ensures goes { λ r. ⌜ left r (now (self .exit)) ≡ after-byte (to-come (now (self .entry))) sign ⌝ }
         ensures small { λ r. ⌜ now (self .exit) .value ≤ now (self .entry) .value ⌝ }
     {
         match (self.word, sign) {
-            (Word::Card, b' ') => {
-                self.begin(State::Cost);
-                true
-            }
             (Word::Leg, b')') => {
                 self.line = Line::Leg {
                     from: self.first as usize,
                     to: self.second as usize,
                 };
                 self.state = State::Ending;
+                true
+            }
+            (Word::Leg, _) => false,
+            (_, b' ') => {
+                self.begin(State::Cost);
                 true
             }
             _ => false,
@@ -315,6 +318,43 @@ impl Reader {
     }
 }
 
-pub fn read_line(text: &[u8], from: usize, stage: Stage) -> Result<Read, usize> {
+// The line that was read, with its places.
+fn placed(line: Line, from: usize, end: usize) -> Read
+    requires { ⌜ Coded line ⌝ ∗ ⌜ end ≡ from + length (line-text line) ⌝ }
+    ensures value { λ r. ⌜ r .line ≡ line ⌝ ∗ ⌜ r .end ≡ end ⌝ }
+    ensures number { λ r. ⌜ r .«number_place» ≡ number-begins from line ⌝ }
+    ensures code { λ r. ⌜ r .«code_place» ≡ code-begins from line ⌝ }
+{
+    let (number_place, code_place) = match line {
+        Line::Bay { .. } => (from + 11, end),
+        Line::Format { .. } => (from + 8, end - 6),
+        Line::Card { .. } => (from + 7, end),
+        Line::Leg { .. } => (from + 6, end),
+        Line::End => (end, end),
+    };
+    Read {
+        line,
+        end,
+        number_place,
+        code_place,
+    }
+}
+
+// Reads one line of the text, from a place on: the line and its end; or the place of the first byte with which
+// no allowed line goes on, or the length of the text, where it ends before the line does.
+pub fn read_line(text: &[u8], from: usize, stage: Stage) -> Result<Read, usize>
+    ensures { λ r. ⌜ ReadLine stage (now (text .entry)) from r ⌝ }
+{
+    let mut reader = Reader::new(stage);
+    let mut place = from;
+    while place < text.len() {
+        if !reader.take(text[place]) {
+            return Err(place);
+        }
+        place += 1;
+        if let State::Over = reader.state {
+            return Ok(placed(reader.line, from, place));
+        }
+    }
     Err(text.len())
 }
