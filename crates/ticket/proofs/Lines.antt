@@ -37,7 +37,7 @@ run-cost a b (pos n) bs small =
     let e = getD-append-left (decimal n) (41 ∷ bs) 0 0 (d .0) in
     let f = digit-at (decimal n) 0 (d .1) (d .0) in
     past 45 (number 1 41 (below-zero a b)) (number 0 41 (not-below a b)) (decimal n ++ (41 ∷ bs))
-        (omega (arith, length-append (decimal n) (41 ∷ bs))) (λ q. omega (arith, e, f, q))
+    (omega (arith, length-append (decimal n) (41 ∷ bs))) (λ q. omega (arith, e, f, q))
     ∙ run-number 0 41 n (not-below a b) bs (omega arith) refl (omega arith) small
 run-cost a b (negsuc n) bs small = run-number 1 41 (suc n) (below-zero a b) bs (omega arith) refl (omega arith) small
 
@@ -98,20 +98,22 @@ bay-line : (bs : List ℕ) (l : Line) → run (line-rest Start) bs ≡ over l �
 bay-line bs l e =
     let g = fixed-began (codes "(bay de") kind-choice bs l e in
     elim (on-went 108 (fixed (codes "ay ") (size-rest Delay)) (on 112 (fixed (codes "th ") (size-rest Depth)) dead) (g .rest) l (g .runs)) [
-      inl w ↦ (
-        let t = fixed-began (codes "ay ") (size-rest Delay) (w .rest) l (w .runs) in
-        let m = number-began 0 41 (λ n. ending (Bay Delay n)) (t .rest) l (t .runs) in
-        let q = ended (Bay Delay (m .value)) (m .rest) l (m .runs) in
-        named Start (Bay Delay (m .value)) l bs (q .1) (m .small)
+      | inl w ↦ (
+          let t = fixed-began (codes "ay ") (size-rest Delay) (w .rest) l (w .runs) in
+          let m = number-began 0 41 (λ n. ending (Bay Delay n)) (t .rest) l (t .runs) in
+          let q = ended (Bay Delay (m .value)) (m .rest) l (m .runs) in
+          named Start (Bay Delay (m .value)) l bs (q .1) (m .small)
           (g .whole ∙ ap (λ x. codes "(bay de" ++ x) (w .whole ∙ ap (λ x. codes "l" ++ x) (t .whole ∙ ap (λ x. codes "ay " ++ x) (m .whole ∙ ap (λ x. decimal (m .value) ++ (41 ∷ x)) (q .0))))))
-    | inr d ↦ elim (on-went 112 (fixed (codes "th ") (size-rest Depth)) dead (g .rest) l d) [
-        inl w ↦ (
-          let t = fixed-began (codes "th ") (size-rest Depth) (w .rest) l (w .runs) in
-          let m = number-began 0 41 (λ n. ending (Bay Depth n)) (t .rest) l (t .runs) in
-          let q = ended (Bay Depth (m .value)) (m .rest) l (m .runs) in
-          named Start (Bay Depth (m .value)) l bs (q .1) (m .small)
+      | inr d ↦ elim (on-went 112 (fixed (codes "th ") (size-rest Depth)) dead (g .rest) l d) [
+        | inl w ↦ (
+            let t = fixed-began (codes "th ") (size-rest Depth) (w .rest) l (w .runs) in
+            let m = number-began 0 41 (λ n. ending (Bay Depth n)) (t .rest) l (t .runs) in
+            let q = ended (Bay Depth (m .value)) (m .rest) l (m .runs) in
+            named Start (Bay Depth (m .value)) l bs (q .1) (m .small)
             (g .whole ∙ ap (λ x. codes "(bay de" ++ x) (w .whole ∙ ap (λ x. codes "p" ++ x) (t .whole ∙ ap (λ x. codes "th " ++ x) (m .whole ∙ ap (λ x. decimal (m .value) ++ (41 ∷ x)) (q .0))))))
-      | inr z ↦ absurd (not-dead (g .rest) l z) ] ]
+        | inr z ↦ absurd (not-dead (g .rest) l z)
+      ]
+    ]
 
 format-line : (bs : List ℕ) (l : Line) → run (line-rest Formats) bs ≡ over l → Is Formats l bs
 format-line bs l e =
@@ -120,7 +122,7 @@ format-line bs l e =
     let s = signs-began 4 (λ cs. closing (Format (m .value) cs)) (m .rest) l (m .runs) in
     let q = closed (Format (m .value) (s .signs)) (s .rest) l (s .runs) in
     named Formats (Format (m .value) (s .signs)) l bs (q .1) (m .small, (s .count, s .all))
-      (g .whole ∙ ap (λ x. codes "(format " ++ x) (m .whole ∙ ap (λ x. decimal (m .value) ++ (32 ∷ x)) (s .whole ∙ ap (λ x. s .signs ++ x) (q .0))))
+    (g .whole ∙ ap (λ x. codes "(format " ++ x) (m .whole ∙ ap (λ x. decimal (m .value) ++ (32 ∷ x)) (s .whole ∙ ap (λ x. s .signs ++ x) (q .0))))
 
 -- a cost
 record Costs (a b : ℕ) (bs : List ℕ) (l : Line) : Type 0 where
@@ -131,13 +133,14 @@ record Costs (a b : ℕ) (bs : List ℕ) (l : Line) : Type 0 where
 
 cost-began : (a b : ℕ) (bs : List ℕ) (l : Line) → run (cost-rest a b) bs ≡ over l → Costs a b bs l
 cost-began a b bs l e = elim (on-went 45 (number 1 41 (below-zero a b)) (number 0 41 (not-below a b)) bs l e) [
-    inl w ↦ (
+  | inl w ↦ (
       let m = number-began 1 41 (below-zero a b) (w .rest) l (w .runs) in
       minus (w .rest) (w .whole) (m .value) (m .rest) (m .above) (m .small) (m .whole) (m .runs))
   | inr p ↦ (
       let m = number-began 0 41 (not-below a b) bs l p in
       let q = ended (Card a b (pos (m .value))) (m .rest) l (m .runs) in
-      record { cost = pos (m .value); small = m .small; whole = m .whole ∙ ap (λ x. decimal (m .value) ++ (41 ∷ x)) (q .0); line = q .1 }) ]
+      record { cost = pos (m .value); small = m .small; whole = m .whole ∙ ap (λ x. decimal (m .value) ++ (41 ∷ x)) (q .0); line = q .1 })
+]
   where
     minus : (rest : List ℕ) → bs ≡ 45 ∷ rest → (n : ℕ) (tail : List ℕ) → 1 ≤ n → n < too-large → rest ≡ decimal n ++ (41 ∷ tail) → run (below-zero a b n) tail ≡ over l → Costs a b bs l
     minus rest w zero tail above small h r = absurd (omega arith)
@@ -153,8 +156,8 @@ card-line bs tail l h e =
     let s = fixed-began (codes " ") (cost-rest (a .value) (b .value)) (b .rest) l (b .runs) in
     let m = cost-began (a .value) (b .value) (s .rest) l (s .runs) in
     named Cards (Card (a .value) (b .value) (m .cost)) l bs (m .line) (a .small, b .small, m .small)
-      (h ∙ ap (λ x. codes "(c" ++ x) (g .whole ∙ ap (λ x. codes "ard (" ++ x) (a .whole ∙ ap (λ x. decimal (a .value) ++ (32 ∷ x)) (
-        b .whole ∙ ap (λ x. decimal (b .value) ++ (41 ∷ x)) (s .whole ∙ ap (λ x. codes " " ++ x) (m .whole))))))
+    (h ∙ ap (λ x. codes "(c" ++ x) (g .whole ∙ ap (λ x. codes "ard (" ++ x) (a .whole ∙ ap (λ x. decimal (a .value) ++ (32 ∷ x)) (
+    b .whole ∙ ap (λ x. decimal (b .value) ++ (41 ∷ x)) (s .whole ∙ ap (λ x. codes " " ++ x) (m .whole))))))
 
 leg-line : (stage : Stage) → ((a b : ℕ) → a < too-large → b < too-large → Allowed stage (Leg a b)) → (bs tail : List ℕ) (l : Line) → bs ≡ codes "(l" ++ tail → run (word-rest word.Leg 1) tail ≡ over l → Is stage l bs
 leg-line stage allows bs tail l h e =
@@ -163,8 +166,8 @@ leg-line stage allows bs tail l h e =
     let b = number-began 0 41 (pair-end word.Leg (a .value)) (a .rest) l (a .runs) in
     let q = closed (Leg (a .value) (b .value)) (b .rest) l (b .runs) in
     named stage (Leg (a .value) (b .value)) l bs (q .1) (allows (a .value) (b .value) (a .small) (b .small))
-      (h ∙ ap (λ x. codes "(l" ++ x) (g .whole ∙ ap (λ x. codes "eg (" ++ x) (a .whole ∙ ap (λ x. decimal (a .value) ++ (32 ∷ x)) (
-        b .whole ∙ ap (λ x. decimal (b .value) ++ (41 ∷ x)) (q .0)))))
+    (h ∙ ap (λ x. codes "(l" ++ x) (g .whole ∙ ap (λ x. codes "eg (" ++ x) (a .whole ∙ ap (λ x. decimal (a .value) ++ (32 ∷ x)) (
+    b .whole ∙ ap (λ x. decimal (b .value) ++ (41 ∷ x)) (q .0)))))
 
 end-line : (stage : Stage) → Allowed stage End → (bs tail : List ℕ) (l : Line) → bs ≡ codes "(e" ++ tail → run (word-rest word.End 1) tail ≡ over l → Is stage l bs
 end-line stage allowed bs tail l h e =
@@ -175,10 +178,12 @@ end-line stage allowed bs tail l h e =
 -- a leg or the end
 last-lines : (stage : Stage) → ((a b : ℕ) → a < too-large → b < too-large → Allowed stage (Leg a b)) → Allowed stage End → (bs tail : List ℕ) (l : Line) → bs ≡ codes "(" ++ tail → run (first-rest Legs) tail ≡ over l → Is stage l bs
 last-lines stage legs end bs tail l h e = elim (on-went 108 (word-rest word.Leg 1) (on 101 (word-rest word.End 1) dead) tail l e) [
-    inl w ↦ leg-line stage legs bs (w .rest) l (h ∙ ap (λ x. 40 ∷ x) (w .whole)) (w .runs)
+  | inl w ↦ leg-line stage legs bs (w .rest) l (h ∙ ap (λ x. 40 ∷ x) (w .whole)) (w .runs)
   | inr d ↦ elim (on-went 101 (word-rest word.End 1) dead tail l d) [
-      inl w ↦ end-line stage end bs (w .rest) l (h ∙ ap (λ x. 40 ∷ x) (w .whole)) (w .runs)
-    | inr z ↦ absurd (not-dead tail l z) ] ]
+    | inl w ↦ end-line stage end bs (w .rest) l (h ∙ ap (λ x. 40 ∷ x) (w .whole)) (w .runs)
+    | inr z ↦ absurd (not-dead tail l z)
+  ]
+]
 
 -- What was read as a line is the text of that line, and the line is allowed.
 pub sound : (stage : Stage) (bs : List ℕ) (l : Line) → run (line-rest stage) bs ≡ over l → Is stage l bs
@@ -187,8 +192,9 @@ sound Formats bs l e = format-line bs l e
 sound Cards bs l e =
     let g = fixed-began (codes "(") (first-rest Cards) bs l e in
     elim (on-went 99 (word-rest word.Card 1) (first-rest Legs) (g .rest) l (g .runs)) [
-      inl w ↦ card-line bs (w .rest) l (g .whole ∙ ap (λ x. 40 ∷ x) (w .whole)) (w .runs)
-    | inr d ↦ last-lines Cards (λ a b h k. (h, k)) tt bs (g .rest) l (g .whole) d ]
+      | inl w ↦ card-line bs (w .rest) l (g .whole ∙ ap (λ x. 40 ∷ x) (w .whole)) (w .runs)
+      | inr d ↦ last-lines Cards (λ a b h k. (h, k)) tt bs (g .rest) l (g .whole) d
+    ]
 sound Legs bs l e =
     let g = fixed-began (codes "(") (first-rest Legs) bs l e in
     last-lines Legs (λ a b h k. (h, k)) tt bs (g .rest) l (g .whole) (g .runs)

@@ -32,11 +32,13 @@ reads low stop n next one apart above small = decimal-by-steps P first more n (o
   where
     P : ℕ → List ℕ → Type 0
     P m ds = low ≤ m → m < too-large → run (number low stop next) ds ≡ digits m stop next
+
     first : (m : ℕ) → m < 10 → P m ((48 + m) ∷ [])
     first m few above small =
         let e : (48 + m) - 48 ≡ m = omega arith in
         cond-true _ (digits ((48 + m) - 48) stop next) dead (and-from _ _ (is-digit (48 + m) (omega arith) (omega arith)) (le-leb low ((48 + m) - 48) (omega arith)))
         ∙ ap (λ k. digits k stop next) e
+
     more : (m : ℕ) (ds : List ℕ) → 10 ≤ m → P (m / 10) ds → P m (ds ++ ((48 + m % 10) ∷ []))
     more m ds ten before above small =
         let c : ℕ = 48 + m % 10 in
@@ -46,7 +48,7 @@ reads low stop n next one apart above small = decimal-by-steps P first more n (o
         ∙ ap (λ r. after-byte r c) (before (omega arith) (omega arith))
         ∙ cond-false (eqb c stop) (next (m / 10)) _ (ne-eqb c stop (λ same. both-ways (digit c) (ap digit same ∙ apart) d))
         ∙ cond-true (digit c && grows (m / 10)) (digits ((m / 10) * 10 + (c - 48)) stop next) dead
-            (and-from _ _ d (and-from _ _ (lt-ltb 0 (m / 10) (omega arith)) (lt-ltb (m / 10) 1_000_000 (omega arith))))
+        (and-from _ _ d (and-from _ _ (lt-ltb 0 (m / 10) (omega arith)) (lt-ltb (m / 10) 1_000_000 (omega arith))))
         ∙ ap (λ k. digits k stop next) e
 
 pub run-number : (low stop n : ℕ) (next : ℕ → Rest) (bs : List ℕ) → low ≤ 1 → digit stop ≡ false → low ≤ n → n < too-large → run (number low stop next) (decimal n ++ (stop ∷ bs)) ≡ run (next n) bs
@@ -80,25 +82,29 @@ record Longer (n stop : ℕ) (next : ℕ → Rest) (bs : List ℕ) (l : Line) : 
 longer : (n stop : ℕ) (next : ℕ → Rest) (bs : List ℕ) (l : Line) → n < too-large → run (digits n stop next) bs ≡ over l → Longer n stop next bs l
 longer n stop next [] l small e = absurd (subst IsOver (sym e) tt)
 longer n stop next (c ∷ bs) l small e = elim (cases-bool (eqb c stop)) [
-    inl t ↦ record {
-      value = n;
-      more = [];
-      rest = bs;
-      above = omega arith;
-      small = small;
-      begins = sym (append-nil (decimal n));
-      whole = ap (λ x. x ∷ bs) (eqb-true c stop t);
-      runs = sym (ap (λ r. run r bs) (cond-true (eqb c stop) (next n) _ t)) ∙ e;
-    }
+  | inl t ↦ record {
+    value = n;
+    more = [];
+    rest = bs;
+    above = omega arith;
+    small = small;
+    begins = sym (append-nil (decimal n));
+    whole = ap (λ x. x ∷ bs) (eqb-true c stop t);
+    runs = sym (ap (λ r. run r bs) (cond-true (eqb c stop) (next n) _ t)) ∙ e;
+  }
   | inr f ↦ elim (cases-bool (digit c && grows n)) [
-      inl t ↦ further (and-parts _ _ t .0) (and-parts _ _ t .1)
+    | inl t ↦ further (and-parts _ _ t .0) (and-parts _ _ t .1)
         (longer (n * 10 + (c - 48)) stop next bs l (fits (and-parts _ _ t .0) (and-parts _ _ t .1)) (sym (step f ∙ ap (λ r. run r bs) (cond-true (digit c && grows n) _ dead t)) ∙ e))
-    | inr g ↦ absurd (not-dead bs l (sym (step f ∙ ap (λ r. run r bs) (cond-false (digit c && grows n) (digits (n * 10 + (c - 48)) stop next) dead g)) ∙ e)) ] ]
+    | inr g ↦ absurd (not-dead bs l (sym (step f ∙ ap (λ r. run r bs) (cond-false (digit c && grows n) (digits (n * 10 + (c - 48)) stop next) dead g)) ∙ e))
+  ]
+]
   where
     step : eqb c stop ≡ false → run (digits n stop next) (c ∷ bs) ≡ run (cond (digit c && grows n) (digits (n * 10 + (c - 48)) stop next) dead) bs
     step f = ap (λ r. run r bs) (cond-false (eqb c stop) (next n) _ f)
+
     fits : digit c ≡ true → grows n ≡ true → n * 10 + (c - 48) < too-large
     fits d g = let a = digit-range c d in let b = grows-range n g in omega arith
+
     further : digit c ≡ true → grows n ≡ true → Longer (n * 10 + (c - 48)) stop next bs l → Longer n stop next (c ∷ bs) l
     further d g k = record {
       value = k .value;
@@ -123,11 +129,13 @@ pub record Counted (low stop : ℕ) (next : ℕ → Rest) (bs : List ℕ) (l : L
 pub number-began : (low stop : ℕ) (next : ℕ → Rest) (bs : List ℕ) (l : Line) → run (number low stop next) bs ≡ over l → Counted low stop next bs l
 number-began low stop next [] l e = absurd (subst IsOver (sym e) tt)
 number-began low stop next (c ∷ bs) l e = elim (cases-bool (digit c && leb low (c - 48))) [
-    inl t ↦ further t (longer (c - 48) stop next bs l (fits t) (sym (ap (λ r. run r bs) (cond-true (digit c && leb low (c - 48)) (digits (c - 48) stop next) dead t)) ∙ e))
-  | inr f ↦ absurd (not-dead bs l (sym (ap (λ r. run r bs) (cond-false (digit c && leb low (c - 48)) (digits (c - 48) stop next) dead f)) ∙ e)) ]
+  | inl t ↦ further t (longer (c - 48) stop next bs l (fits t) (sym (ap (λ r. run r bs) (cond-true (digit c && leb low (c - 48)) (digits (c - 48) stop next) dead t)) ∙ e))
+  | inr f ↦ absurd (not-dead bs l (sym (ap (λ r. run r bs) (cond-false (digit c && leb low (c - 48)) (digits (c - 48) stop next) dead f)) ∙ e))
+]
   where
     fits : (digit c && leb low (c - 48)) ≡ true → c - 48 < too-large
     fits t = let a = digit-range c (and-parts _ _ t .0) in omega arith
+
     further : (digit c && leb low (c - 48)) ≡ true → Longer (c - 48) stop next bs l → Counted low stop next (c ∷ bs) l
     further t k =
         let a = digit-range c (and-parts _ _ t .0) in

@@ -148,10 +148,10 @@ was-read stage bytes r e o = sound stage bytes (r .line) (sym e ∙ ap (λ s. re
 pub refused : (stage : Stage) (bytes : List ℕ) → run (line-rest stage) bytes ≡ dead → Fits stage bytes → ⊥
 refused stage bytes e f =
     not-dead (f .rest) (f .line) (
-      ap (λ t. run t (f .rest)) (sym e)
-      ∙ sym (run-append (line-rest stage) bytes (f .rest))
-      ∙ ap (run (line-rest stage)) (sym (f .whole))
-      ∙ complete stage (f .line) (f .allowed))
+    ap (λ t. run t (f .rest)) (sym e)
+    ∙ sym (run-append (line-rest stage) bytes (f .rest))
+    ∙ ap (run (line-rest stage)) (sym (f .whole))
+    ∙ complete stage (f .line) (f .allowed))
 
 -- one byte more
 pub part-more : (text : List ℕ) (from place : ℕ) → from ≤ place → place < length text → part text from (place + 1) ≡ part text from place ++ (getD text place 0 ∷ [])
@@ -231,10 +231,10 @@ is-read stage text from end r a l m e o same n c =
     record {
       allowed = subst (Allowed stage) (sym (same .0)) (h .0);
       whole =
-        part-split text from end l
-        ∙ ap (λ bs. bs ++ drop end text) (sym (h .1))
-        ∙ ap (λ x. line-text x ++ drop end text) (sym (same .0))
-        ∙ ap (λ x. line-text (a .line) ++ drop x text) (sym (same .1));
+          part-split text from end l
+          ∙ ap (λ bs. bs ++ drop end text) (sym (h .1))
+          ∙ ap (λ x. line-text x ++ drop end text) (sym (same .0))
+          ∙ ap (λ x. line-text (a .line) ++ drop x text) (sym (same .1));
       ends = same .1 ∙ k .1 ∙ ap (λ x. from + length (line-text x)) (sym (same .0));
       number = n ∙ ap (number-begins from) (sym (same .0));
       code = c ∙ ap (code-begins from) (sym (same .0));

@@ -57,12 +57,13 @@ pub record Went (b : ℕ) (r : Rest) (bs : List ℕ) (l : Line) : Type 0 where
 pub on-went : (b : ℕ) (r s : Rest) (bs : List ℕ) (l : Line) → run (on b r s) bs ≡ over l → Went b r bs l ⊎ (run s bs ≡ over l)
 on-went b r s [] l e = absurd (subst IsOver (sym e) tt)
 on-went b r s (c ∷ bs) l e = elim (cases-bool (eqb c b)) [
-    inl t ↦ inl (record {
-      rest = bs;
-      whole = ap (λ x. x ∷ bs) (eqb-true c b t);
-      runs = sym (ap (λ t. run t bs) (cond-true (eqb c b) r (after-byte s c) t)) ∙ e;
-    })
-  | inr f ↦ inr (sym (ap (λ t. run t bs) (cond-false (eqb c b) r (after-byte s c) f)) ∙ e) ]
+  | inl t ↦ inl (record {
+    rest = bs;
+    whole = ap (λ x. x ∷ bs) (eqb-true c b t);
+    runs = sym (ap (λ t. run t bs) (cond-true (eqb c b) r (after-byte s c) t)) ∙ e;
+  })
+  | inr f ↦ inr (sym (ap (λ t. run t bs) (cond-false (eqb c b) r (after-byte s c) f)) ∙ e)
+]
 
 -- a fixed text
 pub run-fixed : (w : List ℕ) (r : Rest) (bs : List ℕ) → run (fixed w r) (w ++ bs) ≡ run r bs
@@ -77,8 +78,9 @@ pub record Began (w : List ℕ) (r : Rest) (bs : List ℕ) (l : Line) : Type 0 w
 pub fixed-began : (w : List ℕ) (r : Rest) (bs : List ℕ) (l : Line) → run (fixed w r) bs ≡ over l → Began w r bs l
 fixed-began [] r bs l e = record { rest = bs; whole = refl; runs = e }
 fixed-began (b ∷ w) r bs l e = elim (on-went b (fixed w r) dead bs l e) [
-    inl g ↦ further (g .rest) (g .whole) (fixed-began w r (g .rest) l (g .runs))
-  | inr d ↦ absurd (not-dead bs l d) ]
+  | inl g ↦ further (g .rest) (g .whole) (fixed-began w r (g .rest) l (g .runs))
+  | inr d ↦ absurd (not-dead bs l d)
+]
   where
     further : (rest : List ℕ) → bs ≡ b ∷ rest → Began w r rest l → Began (b ∷ w) r bs l
     further rest q k = record { rest = k .rest; whole = q ∙ ap (λ x. b ∷ x) (k .whole); runs = k .runs }
@@ -107,8 +109,9 @@ pub signs-began : (n : ℕ) (next : List ℕ → Rest) (bs : List ℕ) (l : Line
 signs-began zero next bs l e = record { signs = []; rest = bs; count = refl; all = tt; whole = refl; runs = e }
 signs-began (suc n) next [] l e = absurd (subst IsOver (sym e) tt)
 signs-began (suc n) next (c ∷ bs) l e = elim (cases-bool (letter c || digit c)) [
-    inl t ↦ further t (signs-began n (λ ds. next (c ∷ ds)) bs l (sym (ap (λ r. run r bs) (cond-true (letter c || digit c) (signs n (λ ds. next (c ∷ ds))) dead t)) ∙ e))
-  | inr f ↦ absurd (not-dead bs l (sym (ap (λ r. run r bs) (cond-false (letter c || digit c) (signs n (λ ds. next (c ∷ ds))) dead f)) ∙ e)) ]
+  | inl t ↦ further t (signs-began n (λ ds. next (c ∷ ds)) bs l (sym (ap (λ r. run r bs) (cond-true (letter c || digit c) (signs n (λ ds. next (c ∷ ds))) dead t)) ∙ e))
+  | inr f ↦ absurd (not-dead bs l (sym (ap (λ r. run r bs) (cond-false (letter c || digit c) (signs n (λ ds. next (c ∷ ds))) dead f)) ∙ e))
+]
   where
     further : coded c → Signed n (λ ds. next (c ∷ ds)) bs l → Signed (suc n) next (c ∷ bs) l
     further t k = record {

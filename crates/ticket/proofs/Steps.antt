@@ -144,25 +144,29 @@ word-letter r ls c e f h =
   where
     w : List ℕ
     w = letters-of (r .word)
+
     whole : to-come r ≡ fixed (drop (r .at) w) (word-end (r .word))
     whole = in-state r InWord e
+
     go : (t : Bool) → takes-letter w (r .at) c ≡ t → left t (cond t (with-letter r) r) ≡ after-byte (to-come r) c
     go true q =
         let l : r .at < length w = ltb-true _ _ (and-parts _ _ q .0) in
         in-state (with-letter r) InWord e
         ∙ sym (ap (λ t. after-byte t c) whole ∙ fixed-goes w (r .at) c (word-end (r .word)) l (eqb-true _ _ (and-parts _ _ q .1)))
     go false q = elim (cases-lt (r .at) (length w)) [
-        inl l ↦ sym (ap (λ t. after-byte t c) whole ∙ fixed-stops w (r .at) c (word-end (r .word)) l
-            (λ same. both-ways _ q (and-from _ _ (lt-ltb _ _ l) (eq-eqb _ _ same))))
+      | inl l ↦ sym (ap (λ t. after-byte t c) whole ∙ fixed-stops w (r .at) c (word-end (r .word)) l
+          (λ same. both-ways _ q (and-from _ _ (lt-ltb _ _ l) (eq-eqb _ _ same))))
       | inr l ↦ sym (ap (λ t. after-byte t c) (whole ∙ fixed-ends w (r .at) (word-end (r .word)) l)
-            ∙ word-after (r .word) c (λ z. grind (arith, tells)) (λ z. grind (arith, tells))) ]
+          ∙ word-after (r .word) c (λ z. grind (arith, tells)) (λ z. grind (arith, tells)))
+    ]
 
 -- any other sign
 pub word-stops : (r : Reader) (c : ℕ) → r .state ≡ InWord → (sort-of c ≡ Letter → ⊥) → (sort-of c ≡ Space → ⊥) → (sort-of c ≡ Close → ⊥) → dead ≡ after-byte (to-come r) c
 word-stops r c e n s t = elim (cases-lt (r .at) (length (letters-of (r .word)))) [
-    inl l ↦ sym (ap (λ t. after-byte t c) (in-state r InWord e) ∙ word-inside (r .word) (r .at) c l (no-letter c n))
+  | inl l ↦ sym (ap (λ t. after-byte t c) (in-state r InWord e) ∙ word-inside (r .word) (r .at) c l (no-letter c n))
   | inr l ↦ sym (ap (λ t. after-byte t c) (in-state r InWord e ∙ fixed-ends (letters-of (r .word)) (r .at) (word-end (r .word)) l)
-        ∙ word-after (r .word) c (no-space c s) (no-close c t)) ]
+      ∙ word-after (r .word) c (no-space c s) (no-close c t))
+]
 
 -- The reader in a kind.
 pub kind-over : (r : Reader) → r .state ≡ InKind → 2 ≤ r .at → kind-choice ≡ to-come r
@@ -172,9 +176,10 @@ pub kind-stops : (r : Reader) (c : ℕ) → r .state ≡ InKind → (sort-of c �
 kind-stops r c e n =
     let no : letter c ≡ false = no-letter c n in
     elim (cases-lt (r .at) 2) [
-    inl l ↦ sym (ap (λ t. after-byte t c) (in-state r InKind e) ∙ fixed-stops (codes "de") (r .at) c kind-choice l
-        (λ same. let h = letter-at (codes "de") (r .at) refl l in both-ways (letter c) no (sym (ap letter same) ∙ h)))
-  | inr l ↦ (let f : dead ≡ after-byte kind-choice c = grind (arith, tells) in f) ∙ ap (λ t. after-byte t c) (kind-over r e l) ]
+      | inl l ↦ sym (ap (λ t. after-byte t c) (in-state r InKind e) ∙ fixed-stops (codes "de") (r .at) c kind-choice l
+          (λ same. let h = letter-at (codes "de") (r .at) refl l in both-ways (letter c) no (sym (ap letter same) ∙ h)))
+      | inr l ↦ (let f : dead ≡ after-byte kind-choice c = grind (arith, tells) in f) ∙ ap (λ t. after-byte t c) (kind-over r e l)
+    ]
 
 -- The reader in a code.
 pub code-over : (r : Reader) → r .state ≡ InCode → length (r .code) ≡ 4 → 4 ≤ r .at → closing (line.Format (r .first) (r .code)) ≡ to-come r
@@ -183,8 +188,9 @@ code-over r e four h = sym (in-state r InCode e ∙ code-ends (r .first) (r .at)
 -- what is no letter, no digit and, where the code is whole, no closing sign
 pub code-refuses : (r : Reader) (c : ℕ) → r .state ≡ InCode → length (r .code) ≡ 4 → (sort-of c ≡ Letter → ⊥) → (sort-of c ≡ Digit → ⊥) → (4 ≤ r .at → c ≡ 41 → ⊥) → dead ≡ after-byte (to-come r) c
 code-refuses r c e four n m t = elim (cases-lt (r .at) 4) [
-    inl l ↦ sym (ap (λ t. after-byte t c) (in-state r InCode e) ∙ code-stops (r .first) (r .at) c (r .code) l (no-sign c n m))
-  | inr l ↦ sym (cond-false (eqb c 41) _ dead (ne-eqb _ _ (t l))) ∙ ap (λ t. after-byte t c) (code-over r e four l) ]
+  | inl l ↦ sym (ap (λ t. after-byte t c) (in-state r InCode e) ∙ code-stops (r .first) (r .at) c (r .code) l (no-sign c n m))
+  | inr l ↦ sym (cond-false (eqb c 41) _ dead (ne-eqb _ _ (t l))) ∙ ap (λ t. after-byte t c) (code-over r e four l)
+]
 
 pub code-stops-there : (r : Reader) (c : ℕ) → r .state ≡ InCode → length (r .code) ≡ 4 → (sort-of c ≡ Letter → ⊥) → (sort-of c ≡ Digit → ⊥) → (sort-of c ≡ Close → ⊥) → dead ≡ after-byte (to-come r) c
 code-stops-there r c e four n m t = code-refuses r c e four n m (λ l z. no-close c t z)

@@ -259,7 +259,9 @@ impl Reader {
                 self.begin(State::From);
                 true
             }
-            (State::Size | State::Number | State::From | State::To, Sort::Digit) => self.digit(sign),
+            (State::Size | State::Number | State::From | State::To, Sort::Digit) => self.digit(
+                sign,
+            ),
             (State::Size, Sort::Close) if self.begun => {
                 self.line = Line::Bay {
                     kind: self.kind,
@@ -289,7 +291,9 @@ impl Reader {
                 self.minus = true;
                 true
             }
-            (State::Cost, Sort::Digit) if self.begun || !self.minus || sign != b'0' => self.digit(sign),
+            (State::Cost, Sort::Digit) if self.begun || !self.minus || sign != b'0' => self.digit(
+                sign,
+            ),
             (State::Cost, Sort::Close) if self.begun => {
                 let size = self.value as i32;
                 self.line = Line::Card {

@@ -13,10 +13,11 @@ use Rattle.ticket.proofs.reader.read_line.Needs as need
 
 pub loop-place-holds : need.loop-place-holds
 loop-place-holds c = (
-    omega arith,
-    sym (ap (run (to-come (c .new-reader .result))) (part-none (c .args .text .now) (c .args .from))),
-    not-over (c .new-reader .result) (line-rest (c .args .stage)) (c .new-reader .ensures .waits) tt,
-    c .new-reader .ensures .small)
+  omega arith,
+  sym (ap (run (to-come (c .new-reader .result))) (part-none (c .args .text .now) (c .args .from))),
+  not-over (c .new-reader .result) (line-rest (c .args .stage)) (c .new-reader .ensures .waits) tt,
+  c .new-reader .ensures .small,
+)
 
 pub take-requires : need.take-requires
 take-requires c κs = c .loop-place .inv .3
@@ -26,12 +27,15 @@ returns-then-not-take c =
     let start = c .new-reader .ensures .waits in
     record {
       before = waiting (c .args .stage) (part (c .args .text .now) (c .args .from) (c .loop-place .place)) (c .loop-place .reader)
-        (c .loop-place .inv .1 ∙ ap (λ s. run s (part (c .args .text .now) (c .args .from) (c .loop-place .place))) start) (c .loop-place .inv .2);
-      here = inr (c .loop-place .inv .0, c .loop-place-test .taken,
+          (c .loop-place .inv .1 ∙ ap (λ s. run s (part (c .args .text .now) (c .args .from) (c .loop-place .place))) start) (c .loop-place .inv .2);
+      here = inr (
+        c .loop-place .inv .0,
+        c .loop-place-test .taken,
         refused (c .args .stage) (part (c .args .text .now) (c .args .from) (c .loop-place .place + 1))
-          (sym (c .if-not-take .ensures tt .goes
+            (sym (c .if-not-take .ensures tt .goes
             ∙ run-more (to-come (c .new-reader .result)) (c .args .text .now) (c .args .from) (c .loop-place .place) (to-come (c .loop-place .reader)) (c .loop-place .inv .0) (c .loop-place-test .taken) (c .loop-place .inv .1)
-            ∙ ap (λ s. run s (part (c .args .text .now) (c .args .from) (c .loop-place .place + 1))) start)));
+            ∙ ap (λ s. run s (part (c .args .text .now) (c .args .from) (c .loop-place .place + 1))) start)),
+      );
     }
 
 pub placed-requires : need.placed-requires
@@ -56,19 +60,20 @@ returns-in-Over c =
 
 pub loop-place-again : need.loop-place-again
 loop-place-again c =
-    let m : c .args .from ≤ c .loop-place .place = c .loop-place .inv .0 in
-    (omega arith,
-    c .if-not-take .ensures tt .goes
-        ∙ run-more (to-come (c .new-reader .result)) (c .args .text .now) (c .args .from) (c .loop-place .place) (to-come (c .loop-place .reader)) (c .loop-place .inv .0) (c .loop-place-test .taken) (c .loop-place .inv .1),
-    c .in-rest .not-Over,
-    c .if-not-take .ensures tt .small)
+    let m : c .args .from ≤ c .loop-place .place = c .loop-place .inv .0 in (
+      omega arith,
+      c .if-not-take .ensures tt .goes
+          ∙ run-more (to-come (c .new-reader .result)) (c .args .text .now) (c .args .from) (c .loop-place .place) (to-come (c .loop-place .reader)) (c .loop-place .inv .0) (c .loop-place-test .taken) (c .loop-place .inv .1),
+      c .in-rest .not-Over,
+      c .if-not-take .ensures tt .small,
+    )
 
 pub returns : need.returns
 returns c = record {
   before = waiting (c .args .stage) (part (c .args .text .now) (c .args .from) (length (c .args .text .now))) (c .loop-place .reader)
-    (c .loop-place .inv .1
+      (c .loop-place .inv .1
       ∙ ap (λ s. run s (part (c .args .text .now) (c .args .from) (c .loop-place .place))) (c .new-reader .ensures .waits)
       ∙ ap (run (line-rest (c .args .stage))) (part-all (c .args .text .now) (c .args .from) (c .loop-place .place) (c .loop-place-test .left)))
-    (c .loop-place .inv .2);
+      (c .loop-place .inv .2);
   here = inl refl;
 }

@@ -10,8 +10,8 @@ use Rattle.ticket.proofs.reader.Reader.code_sign.Needs as need
 pub returns : need.returns
 returns c = record {
   goes =
-    in-state _ InCode (c .pre .at)
-    ∙ sym (ap (λ t. after-byte t (c .args .sign)) (in-state (c .args .self .now) InCode (c .pre .at))
-    ∙ code-goes _ _ _ _ (search needs) (omega arith) (c .pre .fits));
+      in-state _ InCode (c .pre .at)
+      ∙ sym (ap (λ t. after-byte t (c .args .sign)) (in-state (c .args .self .now) InCode (c .pre .at))
+      ∙ code-goes _ _ _ _ (search needs) (omega arith) (c .pre .fits));
   small = search needs;
 }

@@ -47,7 +47,8 @@ returns-in-End c = record {
 pub returns-in-Card : need.returns-in-Card
 returns-in-Card c = record {
   goes = elim (c .in-Card .is) [
-      inl e ↦ ap (λ w. fixed (codes "(") (from-rest w)) e ∙ ap (λ t. after-byte t 32) (word-over (c .args .self .now) Card _ (c .pre) (c .letters .ensures) (c .if-self-letters .left) e)
-    | inr e ↦ ap (λ w. fixed (codes "(") (from-rest w)) e ∙ ap (λ t. after-byte t 32) (word-over (c .args .self .now) Leg _ (c .pre) (c .letters .ensures) (c .if-self-letters .left) e) ];
+    | inl e ↦ ap (λ w. fixed (codes "(") (from-rest w)) e ∙ ap (λ t. after-byte t 32) (word-over (c .args .self .now) Card _ (c .pre) (c .letters .ensures) (c .if-self-letters .left) e)
+    | inr e ↦ ap (λ w. fixed (codes "(") (from-rest w)) e ∙ ap (λ t. after-byte t 32) (word-over (c .args .self .now) Leg _ (c .pre) (c .letters .ensures) (c .if-self-letters .left) e)
+  ];
   small = search needs;
 }

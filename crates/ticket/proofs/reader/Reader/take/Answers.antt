@@ -12,9 +12,9 @@ returns-in-InWord-Letter c =
     let e = word-letter (c .args .self .now) _ (c .args .sign) (c .in-InWord-Letter .is-0) (c .letters .ensures) (sort-letter (c .args .sign) (c .in-InWord-Letter .ensures tt)) in
     record {
       goes =
-        ap (left (c .letter .result)) (c .letter .ensures .exit)
-        ∙ ap (λ t. left t (cond t (with-letter (c .args .self .now)) (c .args .self .now))) (c .letter .ensures .fits)
-        ∙ e;
+          ap (left (c .letter .result)) (c .letter .ensures .exit)
+          ∙ ap (λ t. left t (cond t (with-letter (c .args .self .now)) (c .args .self .now))) (c .letter .ensures .fits)
+          ∙ e;
       small = search needs;
     }
 
