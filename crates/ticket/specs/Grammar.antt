@@ -123,3 +123,7 @@ pub record IsRefused (stage : Stage) (text : List ℕ) (from place : ℕ) : Type
 abbrev pub ReadLine : Stage → List ℕ → ℕ → Result Read ℕ → Type 0
 ReadLine stage text from (Ok read) = IsRead stage text from read
 ReadLine stage text from (Err place) = IsRefused stage text from place
+
+-- no other answer does
+abbrev pub Alone : Stage → List ℕ → ℕ → Result Read ℕ → Type 0
+Alone stage text from r = (s : Result Read ℕ) → ReadLine stage text from s → s ≡ r

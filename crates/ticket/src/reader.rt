@@ -5,7 +5,7 @@ ghost use Prim.Native.Nat.{_+_, _<_, _≤_};
 ghost use Rattle.ticket.specs.Signs.{digit, letter};
 ghost use Rattle.ticket.specs.declared.reader.State.the-variants.{InWord, InKind, PairEnd, InCode};
 ghost use lib.ListN.{length};
-ghost use Rattle.ticket.specs.Grammar.{too-large, line-text, Coded, number-begins, code-begins, ReadLine};
+ghost use Rattle.ticket.specs.Grammar.{too-large, line-text, Coded, number-begins, code-begins, ReadLine, Alone};
 ghost use Rattle.ticket.specs.Rests.{line-rest, to-come, left, after-byte, begun-at, takes-digit, with-digit, takes-letter, with-letter};
 use crate::line::Kind;
 use crate::line::Line;
@@ -347,7 +347,8 @@ fn placed(line: Line, from: usize, end: usize) -> Read
 // Reads one line of the text, from a place on: the line and its end; or the place of the first byte with which
 // no allowed line goes on, or the length of the text, where it ends before the line does.
 pub fn read_line(text: &[u8], from: usize, stage: Stage) -> Result<Read, usize>
-    ensures { λ r. ⌜ ReadLine stage (now (text .entry)) from r ⌝ }
+    ensures line { λ r. ⌜ ReadLine stage (now (text .entry)) from r ⌝ }
+    ensures alone { λ r. ⌜ Alone stage (now (text .entry)) from r ⌝ }
 {
     let mut reader = Reader::new(stage);
     let mut place = from;
