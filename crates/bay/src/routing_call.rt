@@ -14,7 +14,7 @@ use costs::Cost;
 use registers::Register;
 use crate::writing::write_routes;
 use walks::Cell;
-use walks::MOST_FORMATS;
+use registers::MOST_FORMATS;
 use walks::solve;
 use walks::write_loop;
 

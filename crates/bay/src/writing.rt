@@ -19,7 +19,7 @@ use crate::legs::Legs;
 use crate::legs::Note;
 use costs::Cost;
 use walks::Cell;
-use walks::MOST_FORMATS;
+use registers::MOST_FORMATS;
 use walks::trace;
 use walks::write_chain;
 use walks::write_no_chain;

@@ -15,7 +15,8 @@ use Rattle.std.proofs.shelf.Tests.{cases-eq, cases-bool, both-ways}
 use Rattle.costs.specs.Algebra.{Algebra, Lawful}
 use Rattle.walks.specs.Walk.{path, Below, cost}
 use Rattle.walks.specs.Cells.{cards-in, least-in}
-use Rattle.walks.specs.Tracing.{Clear, Ticked, Lined, Wider, to-goal, Ready, TightIn, Scanned, Growing, Full, Traced, most-formats}
+use Rattle.registers.specs.Meaning.{most-formats}
+use Rattle.walks.specs.Tracing.{Clear, Ticked, Lined, Wider, to-goal, Ready, TightIn, Scanned, Growing, Full, Traced}
 use Rattle.walks.specs.declared.cells.Cell.{Cell}
 use Rattle.walks.proofs.Fold.{below-join}
 use Rattle.walks.proofs.Cut.{distinct-few, distinct-end}

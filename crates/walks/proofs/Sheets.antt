@@ -13,7 +13,8 @@ use Rattle.std.specs.declared.option.Option.{Option}
 use Rattle.costs.specs.Algebra.{Algebra, Lawful}
 use Rattle.walks.specs.Walk.{path, Below, Chain}
 use Rattle.walks.specs.Theorems.{Sound}
-use Rattle.walks.specs.Tracing.{Follows, most-formats}
+use Rattle.registers.specs.Meaning.{most-formats}
+use Rattle.walks.specs.Tracing.{Follows}
 use Rattle.walks.specs.Sheet.{most-in-row, row-of, row-at, put-row, Leads, LeadsIn}
 use Rattle.walks.proofs.Follow.{follows-head, follows-same}
 use Rattle.walks.proofs.Growth.{below-at}

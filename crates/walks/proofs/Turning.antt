@@ -9,12 +9,12 @@ use Rattle.std.specs.Options.{Cases}
 use Rattle.std.specs.declared.option.Option.{Option}
 use Rattle.std.specs.declared.option.Option.the-variants.{Some, None}
 use Rattle.costs.specs.Algebra.{Algebra, Lawful}
-use Rattle.registers.specs.Meaning.{Meaning, meant, standing}
+use Rattle.registers.specs.Meaning.{Meaning, meant, standing, most-formats}
 use Rattle.walks.specs.Walk.{path, Below, cost, Chain, Loop, WalkCosts, Least, Gains, GainsAt}
 use Rattle.walks.specs.Theorems.{Sound}
 use Rattle.walks.specs.Cells.{cards-in, least-in}
 use Rattle.walks.specs.Eliminated.{Near, Looked}
-use Rattle.walks.specs.Tracing.{Follows, Traced, most-formats}
+use Rattle.walks.specs.Tracing.{Follows, Traced}
 use Rattle.walks.specs.Sheet.{LeadsIn}
 use Rattle.walks.specs.Solved.{upto, Settled, Solved, Turns}
 use Rattle.walks.specs.declared.cells.Cell.{Cell}

@@ -4,7 +4,8 @@ use mathlib.Core.List.{List, _∷_, _++_}
 use Prim.Native.Nat.{ℕ, _+_, _-_, _*_, _≤_}
 use lib.ListN.{length, take, drop, replicate}
 use Rattle.walks.specs.Walk.{Below}
-use Rattle.walks.specs.Tracing.{Follows, most-formats}
+use Rattle.registers.specs.Meaning.{most-formats}
+use Rattle.walks.specs.Tracing.{Follows}
 
 -- a row has room for so many formats
 abbrev pub most-in-row : ℕ

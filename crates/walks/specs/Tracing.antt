@@ -10,13 +10,10 @@ use Rattle.std.specs.Options.{Cases}
 use Rattle.std.specs.declared.option.Option.{Option}
 use Rattle.std.specs.declared.option.Option.the-variants.{Some, None}
 use Rattle.costs.specs.Algebra.{Algebra}
+use Rattle.registers.specs.Meaning.{most-formats}
 use Rattle.walks.specs.Walk.{path, Below, Distinct, Walk, cost, Chain, WalkCosts, Least, Gains, Tight}
 use Rattle.walks.specs.Cells.{cards-in, least-in, Laid}
 use Rattle.walks.specs.declared.cells.Cell.{Cell}
-
--- a table has at most so many formats
-abbrev pub most-formats : ℕ
-most-formats = 64
 
 -- the formats of the list are those met from v on by `next`, up to t
 abbrev pub Follows : List ℕ → ℕ → ℕ → List ℕ → Type 0

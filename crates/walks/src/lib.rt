@@ -22,5 +22,4 @@ pub use rows::write_no_chain;
 pub use search::solve;
 pub use search::write_loop;
 pub use theory::theorems;
-pub use trail::MOST_FORMATS;
 pub use trail::trace;

@@ -6,7 +6,7 @@ ghost use lib.ListN.{length, replicate, set};
 ghost use lib.Seq.{paste};
 ghost use Rattle.walks.specs.Sheet.{Leads, LeadsIn, put-row, row-of};
 ghost use Rattle.walks.specs.Tracing.{Follows};
-use crate::trail::MOST_FORMATS;
+use registers::MOST_FORMATS;
 
 // The bytes of a row.
 pub const ROW: usize = 66;

@@ -17,9 +17,9 @@ use crate::eliminate::first_stage;
 use crate::eliminate::second_stage;
 use crate::eliminate::third_stage;
 use crate::rows::write_round;
-use crate::trail::MOST_FORMATS;
 use crate::trail::trace;
 use costs::Cost;
+use registers::MOST_FORMATS;
 use registers::Register;
 
 // The cost of the register's card, if it leads from a format below `high` to one up to it.

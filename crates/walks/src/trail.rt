@@ -12,9 +12,7 @@ ghost use Rattle.walks.specs.Tracing.{Clear, Full, Growing, Ready, Scanned, Ti
 use crate::cells::Cell;
 use crate::cells::cell_at;
 use costs::Cost;
-
-// A table has at most so many formats.
-pub const MOST_FORMATS: usize = 64;
+use registers::MOST_FORMATS;
 
 // A tick for each format. All ticks are gone when it ends.
 struct Ticks<'a> {
