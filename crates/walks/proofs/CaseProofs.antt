@@ -1,5 +1,5 @@
--- The worked cases hold. That no walk costs less is shown by a number for each format that no card undershoots (`heights`),
--- and that a rule holds of every card is a test over the list of cards or over the places of the table.
+-- The worked cases hold. That no walk costs less is shown by a height for each format: no card costs less than it rises.
+-- That a rule holds of every card is a test over the list of cards, or over the places of the table.
 use mathlib.Core.Path.{_≡_, refl, sym, ap, subst, subst₂, _∙_}
 use mathlib.Core.Bool.{Bool, true, false, not, _&&_, _||_, cond}
 use mathlib.Core.HLevel.{isProp→PathP}
@@ -78,7 +78,7 @@ table-passes f m t a b = by (pair m a b) refl
         every-below-at (m .size) (λ y. passes (f a y) (standing m a y)) at-row b (ltb-true b (m .size) (and-parts (ltb b (m .size)) (not (eqb a b)) (low .1) .0))
     by false e = ap (λ k. passes (f a b) (cond k (m .cards a b) None)) e
 
--- no card rises by less than from the height of its first format to that of its second: so it is of walks, too
+-- where no card costs less than it rises, from the height of its first format to that of its second, no walk does
 sum-step : (a b c x y : ℤ) → b ≤ℤ (a +ℤ x) → c ≤ℤ (b +ℤ y) → c ≤ℤ (a +ℤ (x +ℤ y))
 sum-step a b c x y p q = omega (arith, ints)
 
@@ -109,7 +109,7 @@ module _ (card : ℕ → ℕ → Option ℤ) (height : ℕ → ℤ) (rises : Pas
   least-by-heights s t x w e =
       (w, λ y q. never-less (height s) (height t) x y (subst (λ z. height t ≤ℤ (height s +ℤ z)) (q .2) (walk-rises s (q .0) t (q .1))) e)
 
--- the heights of a list
+-- the heights of a list, format by format
 abbrev heights : List ℤ → ℕ → ℤ
 heights hs v = getD hs v (pos 0)
 

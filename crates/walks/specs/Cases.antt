@@ -66,26 +66,31 @@ pub record WorkedCases : Type 0 where
   pub ring-gains : Gains delay (cards-of gaining-ring)
   -- 2, −4 and 2 round a ring: none does
   pub ring-is-even : Gains delay (cards-of even-ring) → ⊥
-  -- a closed walk of cost 0 undercuts nothing
+  -- there and back at no cost: a closed walk of cost 0 undercuts nothing
   pub pair-is-even : Gains delay (cards-of free-pair) → ⊥
-  -- and the least costs past it are those of the plain way on
+  -- the least cost from 0 on is that of the one card
   pub pair-from-0 : Least delay (cards-of free-pair) 0 2 (Some (pos 5))
+  -- and from 1 on, by way of 0, the same
   pub pair-from-1 : Least delay (cards-of free-pair) 1 2 (Some (pos 5))
   -- a closed walk that undercuts the unit counts wherever it lies
   pub elsewhere-gains : Gains delay (cards-of gain-elsewhere)
   -- the house table has no closed walk that undercuts the unit
   pub house-is-even : Gains delay open-house → ⊥
-  -- from 4 to 2 one line is given back, by way of 3 and 0
+  -- from 4 to 2 at best one line is given back
   pub house-4-2 : Least delay open-house 4 2 (Some (back 1))
+  -- as the chain by way of 3 and 0 does
   pub house-chain-4-2 : ChainCosts delay open-house (4 ∷ 3 ∷ 0 ∷ 2 ∷ []) (back 1)
-  -- from 4 to 6 two chains have the least cost
+  -- from 4 to 6 the least cost is two lines
   pub house-4-6 : Least delay open-house 4 6 (Some (pos 2))
+  -- one chain of that cost goes by way of 0
   pub house-chain-4-6 : ChainCosts delay open-house (4 ∷ 3 ∷ 0 ∷ 6 ∷ []) (pos 2)
+  -- and another, longer one does not
   pub house-other-4-6 : ChainCosts delay open-house (4 ∷ 3 ∷ 5 ∷ 1 ∷ 6 ∷ []) (pos 2)
   -- with 0 barred no walk leads from 4 to 2
   pub barred-4-2 : Least delay barred-house 4 2 None
-  -- and from 4 to 6 the other chain still has the least cost
+  -- with 0 barred the least cost from 4 to 6 is still two lines
   pub barred-4-6 : Least delay barred-house 4 6 (Some (pos 2))
+  -- by the chain that does not pass 0
   pub barred-chain-4-6 : ChainCosts delay barred-house (4 ∷ 3 ∷ 5 ∷ 1 ∷ 6 ∷ []) (pos 2)
-  -- of depths the most bits are the best: 8 bits by way of 1, not the 6 of the card from 0 to 2
+  -- of depths the most bits are the best: 8 by way of 1, not the 6 of the card from 0 to 2
   pub depth-0-2 : Least depth (cards-of deeper-way) 0 2 (Some (bits 8))

@@ -4,5 +4,4 @@ ghost use Rattle.walks.specs.Cases.{WorkedCases};
 
 pub fn worked_cases()
     ensures { λ _. ⌜ WorkedCases ⌝ }
-{
-}
+{}
