@@ -1,2 +1,2 @@
-mod DelayLaws
-mod DepthLaws
+pub mod DelayLaws
+pub mod DepthLaws

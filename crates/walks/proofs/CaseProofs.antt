@@ -2,11 +2,9 @@
 -- That a rule holds of every card is a test over the list of cards, or over the places of the table.
 use mathlib.Core.Path.{_≡_, refl, sym, ap, subst, subst₂, _∙_}
 use mathlib.Core.Bool.{Bool, true, false, not, _&&_, _||_, cond}
-use mathlib.Core.HLevel.{isProp→PathP}
 use mathlib.Core.List.{List, [], _∷_}
 use mathlib.Core.Logic.{⊎-elim}
 use Prim.Native.Nat.{ℕ, zero, suc, min, _≤_, _<_}
-use native.Mathlib.Bridge.{le-prop}
 use native.Mathlib.Omega.{arith}
 use lib.Dec.{T, eqb, leb, ltb}
 use lib.IntN.{ℤ, pos, negsuc, _+ℤ_}
@@ -17,6 +15,7 @@ use Rattle.std.specs.declared.option.Option.{Option}
 use Rattle.std.specs.declared.option.Option.the-variants.{Some, None}
 use Rattle.std.proofs.shelf.Signed.{ints}
 use Rattle.std.proofs.shelf.Tests.{false≢true, and-parts, eqb-true, leb-true, ltb-true, eq-eqb, cases-eq}
+use Rattle.costs.proofs.DepthLaws.{same-bits}
 use Rattle.costs.specs.Algebra.{Algebra}
 use Rattle.costs.specs.Delay.{delay}
 use Rattle.costs.specs.Depth.{depth, Bits, bits, deepest}
@@ -149,10 +148,6 @@ module _ (card : ℕ → ℕ → Option Bits) (t n : ℕ) (few : Pass card (λ a
 
   least-by-last : (s : ℕ) (x : Bits) → WalkCosts depth card s t x → x .count ≡ n → Least depth card s t (Some x)
   least-by-last s x w e = (w, λ y q u. omega (arith, walk-keeps s (q .0) (q .1), ap (λ (z : Bits). z .count) (q .2)))
-
--- two depths of as many bits are equal
-same-bits : (a b : Bits) → a .count ≡ b .count → a ≡ b
-same-bits a b e = λ i. record { count = e i; bound = isProp→PathP (λ j. e j ≤ deepest) (λ j. le-prop) (a .bound) (b .bound) i }
 
 -- heights for each set of cards with no gain; those of the house are the least costs from 4
 abbrev ring-heights : ℕ → ℤ
