@@ -5,6 +5,7 @@ use crate::kind::Kind;
 use crate::route::Card;
 use crate::route::Ends;
 use crate::route::Job;
+use crate::route::repeat;
 use crate::route::route_both;
 use bay::Bay;
 use bay::BayFault;
@@ -16,6 +17,7 @@ use costs::DepthCost;
 use lent::Matrix;
 use lent::MatrixRegister;
 use registers::Layer;
+use registers::Register;
 use std::alloc::AllocError;
 use std::alloc::Global;
 use std::error::AnyError;
@@ -29,7 +31,7 @@ fn leg(from: usize, to: usize) -> Ends {
     Ends { from, to }
 }
 
-fn show<C: Cost + Kind>(rt: &LibcRuntime, name: &str, n: usize, cards: &[Card], legs: &[Ends]) -> Result<(), AnyError> {
+fn show<'a, C: Cost + Kind>(rt: &LibcRuntime, name: &str, n: usize, cards: &'a [Card], legs: &'a [Ends]) -> Result<(), AnyError> {
     route_both::<C>(rt, name, &Job { n, cards, legs, chains: true })
 }
 
@@ -104,14 +106,20 @@ const NOTHING: Cell<Delay> = Cell {
     least: None,
 };
 
+// A route in so many cells, entries and bytes.
+fn route_in<R: Register<Cost = Delay>>(rt: &LibcRuntime, what: &str, bay: &mut Bay<R>, cells: usize, entries: usize, bytes: usize) -> Result<(), AnyError> {
+    let heap = rt.alloc();
+    let mut table = repeat(heap, NOTHING, cells)?;
+    let mut costs = repeat(heap, Delay { lines: 0 }, entries)?;
+    let mut chains = repeat(heap, 0, bytes)?;
+    print_answer(rt, what, bay.route(table.as_mut_slice(), costs.as_mut_slice(), chains.as_mut_slice()))
+}
+
 // 33 legs over a register of three formats, and routes with too little room.
 fn refusals(rt: &LibcRuntime) -> Result<(), AnyError> {
     let mut places = [None; 9];
     let mut bay = Bay::new(Matrix::new(3, &mut places));
-    let mut table = [NOTHING; 9];
-    let mut costs = [Delay { lines: 0 }; 32];
-    let mut chains = [0; 2112];
-    print_answer(rt, "no legs", bay.route(&mut table, &mut costs, &mut chains))?;
+    route_in(rt, "no legs", &mut bay, 0, 0, 0)?;
     print_answer(rt, "book 3 0", bay.book(3, 0))?;
     print_answer(rt, "book 0 3", bay.book(0, 3))?;
     print_answer(rt, "book 1 1", bay.book(1, 1))?;
@@ -119,10 +127,10 @@ fn refusals(rt: &LibcRuntime) -> Result<(), AnyError> {
         let _ = bay.book(0, 1);
     }
     print_answer(rt, "leg 33", bay.book(1, 2))?;
-    print_answer(rt, "short table", bay.route(&mut table[0..8], &mut costs, &mut chains))?;
-    print_answer(rt, "short costs", bay.route(&mut table, &mut costs[0..31], &mut chains))?;
-    print_answer(rt, "short chains", bay.route(&mut table, &mut costs, &mut chains[0..2111]))?;
-    print_answer(rt, "all legs", bay.route(&mut table, &mut costs, &mut chains))
+    route_in(rt, "short table", &mut bay, 8, 31, 2111)?;
+    route_in(rt, "short costs", &mut bay, 9, 31, 2111)?;
+    route_in(rt, "short chains", &mut bay, 9, 32, 2111)?;
+    route_in(rt, "all legs", &mut bay, 9, 32, 2112)
 }
 
 // Strikes and shows of legs, and faults of the register below.

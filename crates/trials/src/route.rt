@@ -49,7 +49,8 @@ struct Sheets<C> {
     chains: Vec<u8>,
 }
 
-fn repeat<T: Copy>(heap: Global, item: T, count: usize) -> Result<Vec<T>, AllocError> {
+// The item so many times.
+pub fn repeat<T: Copy>(heap: Global, item: T, count: usize) -> Result<Vec<T>, AllocError> {
     let mut items = Vec::new(heap);
     for _ in 0..count {
         items.push(item)?;
