@@ -11,8 +11,14 @@ impl Dice {
 
     // A number below n, and 0 where there is none.
     pub fn below(&mut self, n: usize) -> usize {
-        self.state = self.state.wrapping_mul(1_664_525).wrapping_add(1_013_904_223);
-        if n == 0 { 0 } else { (self.state >> 16) as usize % n }
+        self.state = self.state
+            .wrapping_mul(1_664_525)
+            .wrapping_add(1_013_904_223);
+        if n == 0 {
+            0
+        } else {
+            (self.state >> 16) as usize % n
+        }
     }
 
     // One of so many numbers from `low` on.

@@ -31,28 +31,103 @@ fn leg(from: usize, to: usize) -> Ends {
     Ends { from, to }
 }
 
-fn show<'a, C: Cost + Kind>(rt: &LibcRuntime, name: &str, n: usize, cards: &'a [Card], legs: &'a [Ends]) -> Result<(), AnyError> {
-    route_both::<C>(rt, name, &Job { n, cards, legs, chains: true })
+fn show<'a, C: Cost + Kind>(
+    rt: &LibcRuntime,
+    name: &str,
+    n: usize,
+    cards: &'a [Card],
+    legs: &'a [Ends],
+) -> Result<(), AnyError> {
+    route_both::<C>(
+        rt,
+        name,
+        &Job {
+            n,
+            cards,
+            legs,
+            chains: true,
+        },
+    )
 }
 
 fn ties(rt: &LibcRuntime) -> Result<(), AnyError> {
-    show::<Delay>(rt, "a tie with a loop of delays", 4, &[card(0, 2, 1), card(0, 3, 1), card(2, 1, 1), card(3, 0, -1)], &[leg(0, 1)])?;
-    show::<Depth>(rt, "a tie with a loop of depths", 4, &[card(1, 2, 2), card(1, 3, 1), card(2, 0, 1), card(3, 1, 2)], &[leg(1, 0)])?;
-    show::<Delay>(rt, "a loop of no delay", 3, &[card(0, 1, 0), card(1, 0, 0), card(0, 2, 5)], &[leg(0, 2), leg(1, 2)])
+    show::<Delay>(
+        rt,
+        "a tie with a loop of delays",
+        4,
+        &[card(0, 2, 1), card(0, 3, 1), card(2, 1, 1), card(3, 0, -1)],
+        &[leg(0, 1)],
+    )?;
+    show::<Depth>(
+        rt,
+        "a tie with a loop of depths",
+        4,
+        &[card(1, 2, 2), card(1, 3, 1), card(2, 0, 1), card(3, 1, 2)],
+        &[leg(1, 0)],
+    )?;
+    show::<Delay>(
+        rt,
+        "a loop of no delay",
+        3,
+        &[card(0, 1, 0), card(1, 0, 0), card(0, 2, 5)],
+        &[leg(0, 2), leg(1, 2)],
+    )
 }
 
 fn loops(rt: &LibcRuntime) -> Result<(), AnyError> {
-    show::<Delay>(rt, "a loop away from the leg", 4, &[card(0, 1, 1), card(2, 3, -1), card(3, 2, 0)], &[leg(0, 1)])?;
-    show::<Delay>(rt, "a loop of three that gains", 3, &[card(0, 1, 2), card(1, 2, -4), card(2, 0, 1)], &[leg(0, 2)])?;
-    show::<Delay>(rt, "a loop of three that does not", 3, &[card(0, 1, 2), card(1, 2, -4), card(2, 0, 2)], &[leg(0, 2), leg(1, 0), leg(2, 1)])
+    show::<Delay>(
+        rt,
+        "a loop away from the leg",
+        4,
+        &[card(0, 1, 1), card(2, 3, -1), card(3, 2, 0)],
+        &[leg(0, 1)],
+    )?;
+    show::<Delay>(
+        rt,
+        "a loop of three that gains",
+        3,
+        &[card(0, 1, 2), card(1, 2, -4), card(2, 0, 1)],
+        &[leg(0, 2)],
+    )?;
+    show::<Delay>(
+        rt,
+        "a loop of three that does not",
+        3,
+        &[card(0, 1, 2), card(1, 2, -4), card(2, 0, 2)],
+        &[leg(0, 2), leg(1, 0), leg(2, 1)],
+    )
 }
 
 fn small(rt: &LibcRuntime) -> Result<(), AnyError> {
-    show::<Depth>(rt, "a deeper detour", 3, &[card(0, 1, 10), card(1, 2, 8), card(0, 2, 6)], &[leg(0, 2)])?;
-    show::<Delay>(rt, "two formats", 2, &[card(0, 1, 1_000_000)], &[leg(0, 1), leg(1, 0)])?;
-    show::<Delay>(rt, "two formats in a loop", 2, &[card(0, 1, 1_000_000), card(1, 0, -1_000_000)], &[leg(0, 1), leg(1, 0)])?;
+    show::<Depth>(
+        rt,
+        "a deeper detour",
+        3,
+        &[card(0, 1, 10), card(1, 2, 8), card(0, 2, 6)],
+        &[leg(0, 2)],
+    )?;
+    show::<Delay>(
+        rt,
+        "two formats",
+        2,
+        &[card(0, 1, 1_000_000)],
+        &[leg(0, 1), leg(1, 0)],
+    )?;
+    show::<Delay>(
+        rt,
+        "two formats in a loop",
+        2,
+        &[card(0, 1, 1_000_000), card(1, 0, -1_000_000)],
+        &[leg(0, 1), leg(1, 0)],
+    )?;
     show::<Delay>(rt, "no card", 2, &[], &[leg(1, 0)])?;
-    show::<Depth>(rt, "one card", 2, &[card(1, 0, 16)], &[leg(1, 0), leg(0, 1)])
+    show::<Depth>(
+        rt,
+        "one card",
+        2,
+        &[card(1, 0, 16)],
+        &[leg(1, 0), leg(0, 1)],
+    )
 }
 
 // A card for every pair of 64 formats, at one number from each format to the next and at another elsewhere.
@@ -72,11 +147,29 @@ fn complete(heap: Global, along: i32, elsewhere: i32) -> Result<Vec<Card>, Alloc
 
 fn large(rt: &LibcRuntime) -> Result<(), AnyError> {
     let flat = complete(rt.alloc(), 0, 1)?;
-    show::<Delay>(rt, "a long way round", 64, flat.as_slice(), &[leg(0, 63), leg(63, 0), leg(60, 63)])?;
+    show::<Delay>(
+        rt,
+        "a long way round",
+        64,
+        flat.as_slice(),
+        &[leg(0, 63), leg(63, 0), leg(60, 63)],
+    )?;
     let steep = complete(rt.alloc(), -1_000_000, 1_000_000)?;
-    show::<Delay>(rt, "a loop of most formats", 64, steep.as_slice(), &[leg(0, 63)])?;
+    show::<Delay>(
+        rt,
+        "a loop of most formats",
+        64,
+        steep.as_slice(),
+        &[leg(0, 63)],
+    )?;
     let deep = complete(rt.alloc(), 16, 15)?;
-    show::<Depth>(rt, "a long deep way", 64, deep.as_slice(), &[leg(0, 63), leg(5, 9)])
+    show::<Depth>(
+        rt,
+        "a long deep way",
+        64,
+        deep.as_slice(),
+        &[leg(0, 63), leg(5, 9)],
+    )
 }
 
 fn print_fault(rt: &LibcRuntime, what: &str, fault: BayFault) -> Result<(), AnyError> {
@@ -93,7 +186,11 @@ fn print_fault(rt: &LibcRuntime, what: &str, fault: BayFault) -> Result<(), AnyE
 }
 
 // Prints a call's fault, or the number that it answered.
-fn print_answer(rt: &LibcRuntime, what: &str, answer: Result<usize, BayFault>) -> Result<(), AnyError> {
+fn print_answer(
+    rt: &LibcRuntime,
+    what: &str,
+    answer: Result<usize, BayFault>,
+) -> Result<(), AnyError> {
     match answer {
         Ok(number) => println!(rt, "{what}: {number}")?,
         Err(fault) => print_fault(rt, what, fault)?,
@@ -107,12 +204,27 @@ const NOTHING: Cell<Delay> = Cell {
 };
 
 // A route in so many cells, entries and bytes.
-fn route_in<R: Register<Cost = Delay>>(rt: &LibcRuntime, what: &str, bay: &mut Bay<R>, cells: usize, entries: usize, bytes: usize) -> Result<(), AnyError> {
+fn route_in<R: Register<Cost = Delay>>(
+    rt: &LibcRuntime,
+    what: &str,
+    bay: &mut Bay<R>,
+    cells: usize,
+    entries: usize,
+    bytes: usize,
+) -> Result<(), AnyError> {
     let heap = rt.alloc();
     let mut table = repeat(heap, NOTHING, cells)?;
     let mut costs = repeat(heap, Delay { lines: 0 }, entries)?;
     let mut chains = repeat(heap, 0, bytes)?;
-    print_answer(rt, what, bay.route(table.as_mut_slice(), costs.as_mut_slice(), chains.as_mut_slice()))
+    print_answer(
+        rt,
+        what,
+        bay.route(
+            table.as_mut_slice(),
+            costs.as_mut_slice(),
+            chains.as_mut_slice(),
+        ),
+    )
 }
 
 // 33 legs over a register of three formats, and routes with too little room.

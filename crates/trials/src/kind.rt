@@ -37,7 +37,8 @@ pub impl Kind for Delay as DelayKind {
 
     // From -spread to 9.
     fn draw(dice: &mut Dice, spread: usize) -> i32 {
-        dice.number(0, spread.saturating_add(10)).saturating_sub(i32::try_from(spread).unwrap_or(0))
+        dice.number(0, spread.saturating_add(10))
+            .saturating_sub(i32::try_from(spread).unwrap_or(0))
     }
 }
 

@@ -37,7 +37,13 @@ fn play_ill_matrix(rt: &LibcRuntime, n: usize, dice: &mut Dice) -> Result<(), An
     let mut places: [Option<Delay>; 24] = [Some(Delay { lines: 1 }); 24];
     let check = Change(Matrix::check(n, &places));
     println!(rt, "matrix of {n} in 24 places: {check}")?;
-    play(rt, "calls on it", &mut Matrix::new(n, &mut places), dice, 50)
+    play(
+        rt,
+        "calls on it",
+        &mut Matrix::new(n, &mut places),
+        dice,
+        50,
+    )
 }
 
 fn play_ill_list(rt: &LibcRuntime, n: usize, dice: &mut Dice) -> Result<(), AnyError> {

@@ -65,7 +65,11 @@ fn end(dice: &mut Dice, n: usize) -> usize {
 }
 
 // One call, as a line of text with its answer.
-fn call<R: Register<Cost = Delay>>(heap: Global, register: &mut R, dice: &mut Dice) -> Result<String, AllocError> {
+fn call<R: Register<Cost = Delay>>(
+    heap: Global,
+    register: &mut R,
+    dice: &mut Dice,
+) -> Result<String, AllocError> {
     let sort = dice.below(4);
     let from = end(dice, register.size());
     let to = end(dice, register.size());
@@ -90,9 +94,17 @@ fn call<R: Register<Cost = Delay>>(heap: Global, register: &mut R, dice: &mut Di
 }
 
 // So many calls.
-pub fn play<R: Register<Cost = Delay>>(rt: &LibcRuntime, name: &str, register: &mut R, dice: &mut Dice, calls: usize) -> Result<(), AnyError> {
+pub fn play<R: Register<Cost = Delay>>(
+    rt: &LibcRuntime,
+    name: &str,
+    register: &mut R,
+    dice: &mut Dice,
+    calls: usize,
+) -> Result<(), AnyError> {
     println!(rt, "{name}:")?;
-    let mut checksum = Checksum { value: 2_166_136_261 };
+    let mut checksum = Checksum {
+        value: 2_166_136_261,
+    };
     for i in 0..calls {
         let line = call(rt.alloc(), register, dice)?;
         checksum.add(line.as_str());
@@ -105,7 +117,12 @@ pub fn play<R: Register<Cost = Delay>>(rt: &LibcRuntime, name: &str, register: &
 }
 
 // Calls on the register, then under one bar and under two, and on the register again.
-pub fn play_all<R: Register<Cost = Delay> + Drop>(rt: &LibcRuntime, name: &str, mut register: R, dice: &mut Dice) -> Result<(), AnyError> {
+pub fn play_all<R: Register<Cost = Delay> + Drop>(
+    rt: &LibcRuntime,
+    name: &str,
+    mut register: R,
+    dice: &mut Dice,
+) -> Result<(), AnyError> {
     play(rt, name, &mut register, dice, 400)?;
     let mut barred = Bar::new(register, 4);
     play(rt, "under a bar", &mut barred, dice, 150)?;

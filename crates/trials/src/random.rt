@@ -38,7 +38,11 @@ fn draw_legs(heap: Global, dice: &mut Dice, n: usize) -> Result<Vec<Ends>, Alloc
     for _ in 0..dice.below(5).saturating_add(1) {
         let from = dice.below(n);
         let other = dice.below(n.saturating_sub(1));
-        let to = if other < from { other } else { other.saturating_add(1) };
+        let to = if other < from {
+            other
+        } else {
+            other.saturating_add(1)
+        };
         legs.push(Ends { from, to })?;
     }
     Ok(legs)
@@ -60,8 +64,16 @@ fn trial<C: Cost + Kind>(rt: &LibcRuntime, name: &str, dice: &mut Dice) -> Resul
 pub fn random_trials(rt: &LibcRuntime) -> Result<(), AnyError> {
     let mut dice = Dice::new(7);
     for number in 0..30 {
-        trial::<Delay>(rt, format!(rt.alloc(), "delay {number}")?.as_str(), &mut dice)?;
-        trial::<Depth>(rt, format!(rt.alloc(), "depth {number}")?.as_str(), &mut dice)?;
+        trial::<Delay>(
+            rt,
+            format!(rt.alloc(), "delay {number}")?.as_str(),
+            &mut dice,
+        )?;
+        trial::<Depth>(
+            rt,
+            format!(rt.alloc(), "depth {number}")?.as_str(),
+            &mut dice,
+        )?;
     }
     Ok(())
 }

@@ -96,7 +96,11 @@ fn is_filled(chains: &[u8], k: usize, count: usize) -> bool {
 
 // Whether the sheets are as they were, from these rows and entries on.
 fn is_as_found<C: Cost + Kind>(sheets: &Sheets<C>, rows: usize, entries: usize) -> bool {
-    for byte in sheets.chains.as_slice().iter().skip(rows.saturating_mul(ROW)) {
+    for byte in sheets
+        .chains
+        .as_slice()
+        .iter()
+        .skip(rows.saturating_mul(ROW)) {
         if *byte != JUNK {
             return false;
         }
@@ -121,7 +125,10 @@ fn is_without_repeats(formats: &[usize]) -> bool {
 }
 
 // What the cards along a walk come to; none where one does not stand.
-fn walk_number<C: Cost + Kind, R: Register<Cost = C>>(register: &R, formats: &[usize]) -> Option<i32> {
+fn walk_number<C: Cost + Kind, R: Register<Cost = C>>(
+    register: &R,
+    formats: &[usize],
+) -> Option<i32> {
     let mut number = None;
     for (from, to) in formats.iter().zip(formats.iter().skip(1)) {
         let Some(card) = register.card(*from, *to) else {
@@ -136,7 +143,12 @@ fn walk_number<C: Cost + Kind, R: Register<Cost = C>>(register: &R, formats: &[u
 }
 
 // Whether the formats are a chain for the leg at this number, or there are none and the number says so.
-fn is_right<C: Cost + Kind, R: Register<Cost = C>>(register: &R, leg: Ends, formats: &[usize], number: i32) -> bool {
+fn is_right<C: Cost + Kind, R: Register<Cost = C>>(
+    register: &R,
+    leg: Ends,
+    formats: &[usize],
+    number: i32,
+) -> bool {
     if formats.is_empty() {
         return number == C::neutral();
     }
@@ -186,11 +198,18 @@ fn is_agreed(heap: Global, chains: &[u8], legs: &[Ends]) -> Result<bool, AllocEr
 }
 
 // Whether every leg has what it must.
-fn is_granted<C: Cost + Kind, R: Register<Cost = C>>(heap: Global, register: &R, legs: &[Ends], sheets: &Sheets<C>) -> Result<bool, AllocError> {
+fn is_granted<C: Cost + Kind, R: Register<Cost = C>>(
+    heap: Global,
+    register: &R,
+    legs: &[Ends],
+    sheets: &Sheets<C>,
+) -> Result<bool, AllocError> {
     let chains = sheets.chains.as_slice();
     for (k, (leg, cost)) in legs.iter().zip(sheets.costs.as_slice().iter()).enumerate() {
         let row = formats(heap, chains, k)?;
-        if !is_right(register, *leg, row.as_slice(), cost.number()) || !is_filled(chains, k, row.len()) {
+        if !is_right(register, *leg, row.as_slice(), cost.number())
+            || !is_filled(chains, k, row.len())
+        {
             return Ok(false);
         }
     }
@@ -198,21 +217,32 @@ fn is_granted<C: Cost + Kind, R: Register<Cost = C>>(heap: Global, register: &R,
 }
 
 // Whether row 0 is a loop that gains.
-fn is_loop<C: Cost + Kind, R: Register<Cost = C>>(heap: Global, register: &R, sheets: &Sheets<C>) -> Result<bool, AllocError> {
+fn is_loop<C: Cost + Kind, R: Register<Cost = C>>(
+    heap: Global,
+    register: &R,
+    sheets: &Sheets<C>,
+) -> Result<bool, AllocError> {
     let chains = sheets.chains.as_slice();
     let mut row = formats(heap, chains, 0)?;
     let count = row.len();
     let gains = walk_number(register, row.as_slice()).unwrap_or(0) < 0;
     let end = row.pop();
-    Ok(gains
-        && end == row.as_slice().first().copied()
-        && is_without_repeats(row.as_slice())
-        && is_filled(chains, 0, count)
-        && is_as_found(sheets, 1, 0))
+    Ok(
+        gains
+            && end == row.as_slice().first().copied()
+            && is_without_repeats(row.as_slice())
+            && is_filled(chains, 0, count)
+            && is_as_found(sheets, 1, 0),
+    )
 }
 
 // Whether the notes say what the rows do; open where no chains are asked for.
-fn is_noted<C: Cost + Kind, R: Register<Cost = C>>(bay: &Bay<R>, legs: &[Ends], chains: &[u8], open: bool) -> bool {
+fn is_noted<C: Cost + Kind, R: Register<Cost = C>>(
+    bay: &Bay<R>,
+    legs: &[Ends],
+    chains: &[u8],
+    open: bool,
+) -> bool {
     for (k, leg) in legs.iter().enumerate() {
         let Ok(shown) = bay.show(k) else {
             return false;
@@ -240,8 +270,15 @@ fn print_chain(rt: &LibcRuntime, row: &[usize]) -> Result<(), AnyError> {
 }
 
 // The cost of each leg, or none.
-fn print_legs<C: Cost + Kind>(rt: &LibcRuntime, job: &Job, sheets: &Sheets<C>) -> Result<(), AnyError> {
-    for (k, (_, cost)) in job.legs.iter().zip(sheets.costs.as_slice().iter()).enumerate() {
+fn print_legs<C: Cost + Kind>(
+    rt: &LibcRuntime,
+    job: &Job,
+    sheets: &Sheets<C>,
+) -> Result<(), AnyError> {
+    for (k, (_, cost)) in job.legs
+        .iter()
+        .zip(sheets.costs.as_slice().iter())
+        .enumerate() {
         let row = formats(rt.alloc(), sheets.chains.as_slice(), k)?;
         if row.is_empty() {
             print!(rt, " none")?;
@@ -274,19 +311,33 @@ fn set_up<C: Cost + Kind, R: Register<Cost = C>>(bay: &mut Bay<R>, job: &Job) ->
 }
 
 // Does a job over an empty register, and prints what came of it, or `bad`.
-fn settle<C: Cost + Kind, R: Register<Cost = C> + Drop>(rt: &LibcRuntime, register: R, job: &Job) -> Result<(), AnyError> {
+fn settle<C: Cost + Kind, R: Register<Cost = C> + Drop>(
+    rt: &LibcRuntime,
+    register: R,
+    job: &Job,
+) -> Result<(), AnyError> {
     let heap = rt.alloc();
     let mut bay = Bay::new(register);
     let ready = set_up(&mut bay, job);
     let mut sheets = new_sheets::<C>(heap, job)?;
-    let answer = bay.route(sheets.table.as_mut_slice(), sheets.costs.as_mut_slice(), sheets.chains.as_mut_slice());
+    let answer = bay.route(
+        sheets.table.as_mut_slice(),
+        sheets.costs.as_mut_slice(),
+        sheets.chains.as_mut_slice(),
+    );
     let noted = ready && is_noted(&bay, job.legs, sheets.chains.as_slice(), answer.is_err());
     let register = bay.into_register();
     match answer {
-        Ok(count) if noted && count == job.legs.len() && is_granted(heap, &register, job.legs, &sheets)? => {
+        Ok(count)
+            if noted
+                && count == job.legs.len()
+                && is_granted(heap, &register, job.legs, &sheets)? => {
             print_legs(rt, job, &sheets)?;
         }
-        Err(BayFault::Loop) if noted && is_loop(heap, &register, &sheets)? => println!(rt, " loop")?,
+        Err(BayFault::Loop) if noted && is_loop(heap, &register, &sheets)? => println!(
+            rt,
+            " loop"
+        )?,
         _ => println!(rt, " bad")?,
     }
     Ok(())
