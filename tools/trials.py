@@ -290,6 +290,7 @@ def fixed_cases():
     show("a loop away from the leg", "delay", 4, {(0, 1): 1, (2, 3): -1, (3, 2): 0}, [(0, 1)])
     show("a loop of three that gains", "delay", 3, {(0, 1): 2, (1, 2): -4, (2, 0): 1}, [(0, 2)])
     show("a loop of three that does not", "delay", 3, {(0, 1): 2, (1, 2): -4, (2, 0): 2}, [(0, 2), (1, 0), (2, 1)])
+    show("a loop beside one of no delay", "delay", 3, {(0, 2): -1, (1, 2): -1, (2, 0): 1, (2, 1): 0}, [(0, 1)])
     show("a deeper detour", "depth", 3, {(0, 1): 10, (1, 2): 8, (0, 2): 6}, [(0, 2)])
     show("two formats", "delay", 2, {(0, 1): 1000000}, [(0, 1), (1, 0)])
     show("two formats in a loop", "delay", 2, {(0, 1): 1000000, (1, 0): -1000000}, [(0, 1), (1, 0)])
@@ -313,6 +314,19 @@ def fixed_cases():
     print("show 1: bay 14.0")
     print("withdraw 0 1: register 22.0")
     print("enter 0 1 1000001: register 13.2")
+    notes()
+
+
+def notes():
+    # A card of the leg; a refused change; no card; a way of two cards.
+    for note in "2 formats", "no chain", "3 formats":
+        print("leg 0 2 1: open")
+        print("route: 2")
+        print(f"leg 0 2 1: {note}")
+        if note == "2 formats":
+            print("leg 0 2 1: 2 formats")
+    print("leg 0 0 1: 2 formats")
+    print("show: bay 14.0")
 
 
 play_registers()

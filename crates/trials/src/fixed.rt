@@ -9,6 +9,7 @@ use crate::route::repeat;
 use crate::route::route_both;
 use bay::Bay;
 use bay::BayFault;
+use bay::Note;
 use costs::Cost;
 use costs::Delay;
 use costs::DelayCost;
@@ -95,6 +96,13 @@ fn loops(rt: &LibcRuntime) -> Result<(), AnyError> {
         3,
         &[card(0, 1, 2), card(1, 2, -4), card(2, 0, 2)],
         &[leg(0, 2), leg(1, 0), leg(2, 1)],
+    )?;
+    show::<Delay>(
+        rt,
+        "a loop beside one of no delay",
+        3,
+        &[card(0, 2, -1), card(1, 2, -1), card(2, 0, 1), card(2, 1, 0)],
+        &[leg(0, 1)],
     )
 }
 
@@ -265,11 +273,63 @@ fn legs(rt: &LibcRuntime) -> Result<(), AnyError> {
     Ok(())
 }
 
+// Leg k, with its note.
+fn print_leg<R: Register<Cost = Delay>>(
+    rt: &LibcRuntime,
+    bay: &Bay<R>,
+    k: usize,
+) -> Result<(), AnyError> {
+    match bay.show(k) {
+        Ok(leg) => {
+            let from = leg.from;
+            let to = leg.to;
+            match leg.note {
+                Note::Open => println!(rt, "leg {k} {from} {to}: open")?,
+                Note::NoChain => println!(rt, "leg {k} {from} {to}: no chain")?,
+                Note::Chain(count) => println!(rt, "leg {k} {from} {to}: {count} formats")?,
+            }
+        }
+        Err(fault) => print_fault(rt, "show", fault)?,
+    }
+    Ok(())
+}
+
+// Routes, and prints leg 0 before and after.
+fn route_and_print<R: Register<Cost = Delay>>(
+    rt: &LibcRuntime,
+    bay: &mut Bay<R>,
+) -> Result<(), AnyError> {
+    print_leg(rt, bay, 0)?;
+    route_in(rt, "route", bay, 9, 2, 132)?;
+    print_leg(rt, bay, 0)
+}
+
+// Notes after routes and changes, and what a strike leaves.
+fn notes(rt: &LibcRuntime) -> Result<(), AnyError> {
+    let mut places = [None; 9];
+    let mut bay = Bay::new(Matrix::new(3, &mut places));
+    let _ = bay.book(2, 1);
+    let _ = bay.book(0, 1);
+    let _ = bay.enter(2, 1, Delay { lines: 4 });
+    route_and_print(rt, &mut bay)?;
+    let _ = bay.enter(2, 1, Delay { lines: -1_000_001 });
+    print_leg(rt, &bay, 0)?;
+    let _ = bay.withdraw(2, 1);
+    route_and_print(rt, &mut bay)?;
+    let _ = bay.enter(2, 0, Delay { lines: 3 });
+    let _ = bay.enter(0, 1, Delay { lines: 3 });
+    route_and_print(rt, &mut bay)?;
+    let _ = bay.strike(0);
+    print_leg(rt, &bay, 0)?;
+    print_leg(rt, &bay, 1)
+}
+
 pub fn fixed_cases(rt: &LibcRuntime) -> Result<(), AnyError> {
     ties(rt)?;
     loops(rt)?;
     small(rt)?;
     large(rt)?;
     refusals(rt)?;
-    legs(rt)
+    legs(rt)?;
+    notes(rt)
 }
