@@ -1,4 +1,6 @@
 // The bay: converter cards of a register, and the legs that are to be routed over them.
+#![tactic(auto)]
+
 mod bays;
 mod calls;
 mod fault;

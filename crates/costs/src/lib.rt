@@ -1,5 +1,7 @@
 // Cost kinds: what a converter card may cost, how costs combine along a chain, and which cost is better.
 // Everything above this crate is written once, for every type that implements `Cost`.
+#![tactic(auto)]
+
 mod delay;
 mod depth;
 

@@ -1,5 +1,7 @@
 // Registers in lent memory: the matrix and the list hold their cards in memory that their maker lends, and neither
 // asks for any of its own. Both are registers like every other, and prove besides what they do to that memory.
+#![tactic(auto)]
+
 mod list;
 mod matrix;
 mod memory;

@@ -1,4 +1,6 @@
 // The text of a ticket's answer, byte by byte.
+#![tactic(auto)]
+
 mod answer;
 mod output;
 mod text;

@@ -1,5 +1,7 @@
 // Registers: which converter cards stand, behind one trait. The layers above are proved over a register's meaning.
 // `judge_ends` is pub only for our own crates: a register of theirs judges its ends by it.
+#![tactic(auto)]
+
 mod bar;
 mod fault;
 mod house;

@@ -1,5 +1,7 @@
 // Routes legs over the house table. Standard input has a leg a line, as `4 2`; a line `bar 0` asks for the legs once more
 // with that format out of use.
+#![tactic(auto)]
+
 use anyhow::anyhow;
 use bay::{Answer, Bay, Call, Routes, Stopped};
 use costs::Delay;

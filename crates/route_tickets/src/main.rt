@@ -1,4 +1,6 @@
 // Routes the ticket on standard input, and prints its answer.
+#![tactic(auto)]
+
 use anyhow::anyhow;
 use bay::Ends;
 use costs::{Delay, Depth};

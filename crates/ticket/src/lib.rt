@@ -1,4 +1,6 @@
 // The ticket: its text, read line by line.
+#![tactic(auto)]
+
 mod line;
 mod reader;
 mod sort;

@@ -1,4 +1,6 @@
 // The ticket: any bytes are routed, or refused with the byte.
+#![tactic(auto)]
+
 mod fault;
 mod formats;
 mod kinds;

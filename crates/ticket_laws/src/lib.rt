@@ -1,4 +1,6 @@
 // What holds of the answers to tickets.
+#![tactic(auto)]
+
 ghost use Rattle.ticket_laws.specs.Verdict.{OneVerdict};
 ghost use Rattle.ticket_laws.specs.Whole.{GrantedIsWhole};
 

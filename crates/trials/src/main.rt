@@ -1,4 +1,6 @@
 // Trials of the registers and of the bay. tools/trials.py makes what must come out, from a model of its own.
+#![tactic(auto)]
+
 mod dice;
 mod fixed;
 mod kind;

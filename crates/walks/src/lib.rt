@@ -1,5 +1,7 @@
 // Walks over the cards of a register: what they cost, and which cost least.
 // `price` is for anybody. The search, the trace and the rows are pub only for our own crates, and ask something of their callers.
+#![tactic(auto)]
+
 mod cells;
 mod eliminate;
 mod examples;

@@ -1,5 +1,7 @@
 // Worked cases, as one statement about the definitions: walks and least costs over a few small sets of cards and over the
 // house table, and the sample ticket.
+#![tactic(auto)]
+
 ghost use Rattle.worked.specs.Cases.{WorkedCases};
 
 // Does nothing; its contract is that they hold.
