@@ -1,8 +1,7 @@
 -- A bar commutes with what its register's calls do, at pairs that touch no barred format.
-use Rattle.std.proofs.Common.{◌≡◌, ℕ, Bool, true, false, cond, not, ◌&&◌, ◌||◌, eqb, is_some, Some, None, Option, sym, refl, ap, ◌∙◌}
-use Rattle.std.specs.Option.{option_map}
+use Rattle.std.proofs.Common.{◌≡◌, ℕ, Bool, true, false, cond, ◌&&◌, eqb, Some, None, Option, sym, refl, ap, ◌∙◌}
 use Rattle.std.proofs.lemmas.Bool.{and_parts, eqb-true}
-use Rattle.registers.specs.Bar.{bars, touches, barred}
+use Rattle.registers.specs.Bar.{touches, barred}
 use Rattle.registers.specs.Fault.{first_cause, after}
 use Rattle.registers.specs.declared.fault.Code.{Code}
 use Rattle.registers.specs.Meaning.{Meaning, meant, put, standing, entered, withdrawn, enter_causes, withdraw_causes}

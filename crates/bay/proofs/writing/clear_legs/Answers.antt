@@ -10,17 +10,17 @@ loop-k-init g c = cleared_none g.C.Cost.algebra g.C.Cost.value _
 pub bounds-costs-k : goal.bounds-costs-k
 bounds-costs-k g c = omega (arith, c.len-k-end.ensures.value, c.requires.entries)
 
-pub write-no-chain-requires : goal.write-no-chain-requires
-write-no-chain-requires g c = record { room = omega (arith, c.len-k-end.ensures.value, c.requires.rows) }
+pub write_no_chain-requires : goal.write_no_chain-requires
+write_no_chain-requires g c = record { room = omega (arith, c.len-k-end.ensures.value, c.requires.rows) }
 
-pub set-note-requires : goal.set-note-requires
-set-note-requires g c = omega (arith, same_number _ _ c.loop-k.invariant.0, c.len-k-end.ensures.value)
+pub set_note-requires : goal.set_note-requires
+set_note-requires g c = omega (arith, same_number _ _ c.loop-k.invariant.0, c.len-k-end.ensures.value)
 
 pub loop-k-preserved : goal.loop-k-preserved
 loop-k-preserved g c =
     cleared_more g.C.Cost.algebra g.C.Cost.value _ (page (booked c.loop-k.legs) c.loop-k.costs c.loop-k.chains) c.loop-k.k
     (omega (arith, same_number _ _ c.loop-k.invariant.0, c.len-k-end.ensures.value)) (written_room _ _ c.loop-k.invariant.0 c.requires) c.loop-k.invariant
-    c.unit.result c.unit.ensures _ _ c.set-note.ensures c.write-no-chain.ensures.written
+    c.unit.result c.unit.ensures _ _ c.set_note.ensures c.write_no_chain.ensures.written
 
 pub returns : goal.returns
 returns g c = record {

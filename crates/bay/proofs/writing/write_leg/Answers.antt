@@ -9,11 +9,11 @@ returns-then-leg-n g c =
     leg_outside g.met.C.Cost.lawful g.C.Cost.value c.args.n c.args.table.now c.requires.laid c.args.next.now
     (page (booked c.args.legs.now) c.args.costs.now c.args.chains.now) c.args.k c.args.leg c.requires.leg.1 c.requires.blank c.if-leg-n.true
 
-pub returns-in-default : goal.returns-in-default
-returns-in-default g c =
+pub returns-in_default : goal.returns-in_default
+returns-in_default g c =
     leg_none g.met.C.Cost.lawful g.C.Cost.value c.args.n c.args.table.now c.requires.laid c.args.next.now
     (page (booked c.args.legs.now) c.args.costs.now c.args.chains.now) c.args.k c.args.leg c.requires.leg.1
-    (c.requires.traced c.if-leg-n.false) c.requires.blank c.in-default.ensures
+    (c.requires.traced c.if-leg-n.false) c.requires.blank c.in_default.ensures
 
 pub offset-bounds-costs-k : goal.offset-bounds-costs-k
 offset-bounds-costs-k g c = let here : c.args.k < length c.args.costs.now = omega (arith, c.requires.room.entries) in search rules
@@ -21,8 +21,8 @@ offset-bounds-costs-k g c = let here : c.args.k < length c.args.costs.now = omeg
 pub bounds-costs-k : goal.bounds-costs-k
 bounds-costs-k g c = omega (arith, c.requires.room.entries)
 
-pub write-chain-count-requires : goal.write-chain-count-requires
-write-chain-count-requires g c = record {
+pub write_chain-count-requires : goal.write_chain-count-requires
+write_chain-count-requires g c = record {
   room = omega (arith, c.requires.room.rows);
   leads =
       leg_leads g.met.C.Cost.lawful g.C.Cost.value c.args.n c.args.table.now c.requires.laid c.args.next.now
@@ -35,4 +35,4 @@ returns g c =
     leg_written g.met.C.Cost.lawful g.C.Cost.value c.args.n c.args.table.now c.requires.laid c.args.next.now
     (page (booked c.args.legs.now) c.args.costs.now c.args.chains.now) c.args.k c.args.leg c.requires.leg.1
     (c.requires.traced c.if-leg-n.false) c.requires.few c.in-Some.cost c.in-Some.ensures (c.requires.least c.if-leg-n.false) c.requires.leg.0
-    c.requires.room c.write-chain-count.result _ _ c.write-chain-count.ensures.written c.set-note.ensures
+    c.requires.room c.write_chain-count.result _ _ c.write_chain-count.ensures.written c.set_note.ensures

@@ -6,17 +6,17 @@ use Rattle.lent.proofs.Listed.{seen_none, seen_again, seen_step}
 use Rattle.lent.proofs.list.free_entry.Goals as goal
 
 pub loop-i-init : goal.loop-i-init
-loop-i-init g c = seen_none (admitted_by g.row.C-Cost.algebra g.row.C-Cost.value) c.args.n c.args.entries.now
+loop-i-init g c = seen_none (admitted_by g.C.Cost.algebra g.C.Cost.value) c.args.n c.args.entries.now
 
 pub returns-then-seen-place : goal.returns-then-seen-place
 returns-then-seen-place g c =
-    (c.loop-i-test.true, seen_again (admitted_by g.row.C-Cost.algebra g.row.C-Cost.value) c.args.n c.requires c.args.entries.now c.loop-i.i c.loop-i-test.true c.index-entries-i.result c.index-entries-i.is c.in-Some.entry c.in-Some.ensures c.loop-i.seen c.loop-i.invariant c.if-seen-place.true)
+    (c.loop-i-test.true, seen_again (admitted_by g.C.Cost.algebra g.C.Cost.value) c.args.n c.requires c.args.entries.now c.loop-i.i c.loop-i-test.true c.index-entries-i.result c.index-entries-i.is c.in-Some.entry c.in-Some.ensures c.loop-i.seen c.loop-i.invariant c.if-seen-place.true)
 
 pub loop-i-preserved : goal.loop-i-preserved
 loop-i-preserved g c =
-    seen_step (admitted_by g.row.C-Cost.algebra g.row.C-Cost.value) c.args.n c.requires c.args.entries.now c.loop-i.i c.loop-i-test.true c.index-entries-i.result c.index-entries-i.is c.in-Some.entry c.in-Some.ensures c.loop-i.seen c.loop-i.invariant c.if-seen-place.false
+    seen_step (admitted_by g.C.Cost.algebra g.C.Cost.value) c.args.n c.requires c.args.entries.now c.loop-i.i c.loop-i-test.true c.index-entries-i.result c.index-entries-i.is c.in-Some.entry c.in-Some.ensures c.loop-i.seen c.loop-i.invariant c.if-seen-place.false
 
 pub returns : goal.returns
 returns g c =
     let all = take_all c.loop-i.i c.args.entries.now c.loop-i-test.false in
-    omega (arith, ap (λ l. how_many c.args.n (first_cost (admitted_by g.row.C-Cost.algebra g.row.C-Cost.value) c.args.n l)) all, c.loop-i.invariant.1)
+    omega (arith, ap (λ l. how_many c.args.n (first_cost (admitted_by g.C.Cost.algebra g.C.Cost.value) c.args.n l)) all, c.loop-i.invariant.1)

@@ -5,4 +5,4 @@ use Rattle.lent.proofs.list.remove.Given as goal
 
 abbrev pub invariant-loop-i : goal.invariant-loop-i
 invariant-loop-i g l =
-    l.entries ≡ without (admitted_by g.row.C-Cost.algebra g.row.C-Cost.value) l.n l.from l.to (take l.i l.initial.entries) ++ drop l.i l.initial.entries
+    l.entries ≡ without (admitted_by g.C.Cost.algebra g.C.Cost.value) l.n l.from l.to (take l.i l.initial.entries) ++ drop l.i l.initial.entries

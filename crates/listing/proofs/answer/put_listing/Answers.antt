@@ -15,15 +15,15 @@ loop-k-init g c = writes_none c.args.out.now
 
 pub loop-k-preserved : goal.loop-k-preserved
 loop-k-preserved g c =
-    let fits : SFits w32 c.number-at.result = search rules in
+    let fits : SFits w32 c.number_at.result = search rules in
     let numbers = map g.C.TicketCost.writes c.args.costs.now in
     let leg = get_or c.args.ends.now c.loop-k.k no_ends in
-    writes_is c.args.out.now c.put-leg.new.out _ _ (legs_more c.args.codes.now c.args.ends.now numbers c.args.chains.now c.loop-k.k)
-    (writes_both c.args.out.now c.loop-k.out c.put-leg.new.out _ _ c.loop-k.invariant
-    (writes_is c.loop-k.out c.put-leg.new.out _ _
-    (ap (λ z. leg_text c.args.codes.now c.loop-k.k leg z c.row-formats.result.now) (to_z-of_z w32 c.number-at.result fits ∙ c.number-at.ensures)
-    ∙ ap (leg_text c.args.codes.now c.loop-k.k leg (get_or numbers c.loop-k.k (pos 0))) c.row-formats.ensures)
-    c.put-leg.ensures))
+    writes_is c.args.out.now c.put_leg.new.out _ _ (legs_more c.args.codes.now c.args.ends.now numbers c.args.chains.now c.loop-k.k)
+    (writes_both c.args.out.now c.loop-k.out c.put_leg.new.out _ _ c.loop-k.invariant
+    (writes_is c.loop-k.out c.put_leg.new.out _ _
+    (ap (λ z. leg_text c.args.codes.now c.loop-k.k leg z c.row_formats.result.now) (to_z-of_z w32 c.number_at.result fits ∙ c.number_at.ensures)
+    ∙ ap (leg_text c.args.codes.now c.loop-k.k leg (get_or numbers c.loop-k.k (pos 0))) c.row_formats.ensures)
+    c.put_leg.ensures))
 
 pub returns : goal.returns
 returns g c =

@@ -8,12 +8,12 @@ use Rattle.listing.proofs.answer.put_refusal.Goals as goal
 
 pub returns-then-code-eq-LOOP : goal.returns-then-code-eq-LOOP
 returns-then-code-eq-LOOP c =
-    writes_both _ _ _ _ _ (writes_is _ _ _ (code_line (ticket_code c.args.refusal.fault) c.args.refusal.byte) (ap (λ x. code_line x c.args.refusal.byte) c.code-code.ensures) c.put-code-line.ensures)
-    (writes_is _ _ _ _ (ap (loop_text c.args.codes.now) c.row-formats.ensures ∙ sym (cond-true (eqb (ticket_code c.args.refusal.fault).number loop_number) (loop_text c.args.codes.now (formats_of c.args.chains.now 0)) []
-    (eq-eqb (ticket_code c.args.refusal.fault).number loop_number (sym (ap (λ x. x.number) c.code-code.ensures) ∙ c.if-code-eq-LOOP.true)))) c.put-loop.ensures)
+    writes_both _ _ _ _ _ (writes_is _ _ _ (code_line (ticket_code c.args.refusal.fault) c.args.refusal.byte) (ap (λ x. code_line x c.args.refusal.byte) c.code-code.ensures) c.put_code_line.ensures)
+    (writes_is _ _ _ _ (ap (loop_text c.args.codes.now) c.row_formats.ensures ∙ sym (cond-true (eqb (ticket_code c.args.refusal.fault).number loop_number) (loop_text c.args.codes.now (formats_of c.args.chains.now 0)) []
+    (eq-eqb (ticket_code c.args.refusal.fault).number loop_number (sym (ap (λ x. x.number) c.code-code.ensures) ∙ c.if-code-eq-LOOP.true)))) c.put_loop.ensures)
 
 pub returns-else-code-eq-LOOP : goal.returns-else-code-eq-LOOP
 returns-else-code-eq-LOOP c =
-    writes_both _ _ _ _ _ (writes_is _ _ _ (code_line (ticket_code c.args.refusal.fault) c.args.refusal.byte) (ap (λ x. code_line x c.args.refusal.byte) c.code-code.ensures) c.put-code-line.ensures)
+    writes_both _ _ _ _ _ (writes_is _ _ _ (code_line (ticket_code c.args.refusal.fault) c.args.refusal.byte) (ap (λ x. code_line x c.args.refusal.byte) c.code-code.ensures) c.put_code_line.ensures)
     (writes_is _ _ _ _ (sym (cond-false (eqb (ticket_code c.args.refusal.fault).number loop_number) (loop_text c.args.codes.now (formats_of c.args.chains.now 0)) []
-    (ne_eqb (ticket_code c.args.refusal.fault).number loop_number (λ e. c.if-code-eq-LOOP.false (ap (λ x. x.number) c.code-code.ensures ∙ e))))) (writes_none c.put-code-line.new.out))
+    (ne_eqb (ticket_code c.args.refusal.fault).number loop_number (λ e. c.if-code-eq-LOOP.false (ap (λ x. x.number) c.code-code.ensures ∙ e))))) (writes_none c.put_code_line.new.out))

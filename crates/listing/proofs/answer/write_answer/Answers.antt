@@ -6,7 +6,7 @@ use Rattle.listing.proofs.answer.write_answer.Goals as goal
 
 pub returns-then-length-place : goal.returns-then-length-place
 returns-then-length-place c = (
-  c.finish-length.ensures.count ∙ (c.put-answer.ensures.adds [] [] c.new-count.ensures.holds).count,
+  c.finish-length.ensures.count ∙ (c.put_answer.ensures.adds [] [] c.new-count.ensures.holds).count,
   c.if-length-place.true,
   refl,
 )
@@ -14,9 +14,9 @@ returns-then-length-place c = (
 pub returns : goal.returns
 returns c =
     let text = answer_text c.args.codes.now c.args.ends.now c.args.delays.now c.args.depths.now c.args.chains.now c.args.answer.now in
-    let counted = c.finish-length.ensures.count ∙ (c.put-answer.ensures.adds [] [] c.new-count.ensures.holds).count in
+    let counted = c.finish-length.ensures.count ∙ (c.put_answer.ensures.adds [] [] c.new-count.ensures.holds).count in
     let short : length c.args.place.now < most_length = omega arith in
-    let done = printed c.args.place.now text c.put-answer-2.new.out c.finish-length.result (c.put-answer-2.ensures.adds c.args.place.now [] c.new-out.ensures.holds) counted (omega (arith, c.if-length-place.false)) short in
+    let done = printed c.args.place.now text c.put_answer-2.new.out c.finish-length.result (c.put_answer-2.ensures.adds c.args.place.now [] c.new-out.ensures.holds) counted (omega (arith, c.if-length-place.false)) short in
     let left : c.finish.new.self.0 ≡ text ++ drop (length text) c.args.place.now = c.finish.ensures.left ∙ done.1 in
-    let same = c.put-answer-2.ensures.same ∙ c.new-out.ensures.lent in
+    let same = c.put_answer-2.ensures.same ∙ c.new-out.ensures.lent in
     (c.finish.ensures.count ∙ done.0, search rules)

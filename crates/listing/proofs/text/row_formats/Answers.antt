@@ -3,11 +3,11 @@ use Rattle.std.proofs.lemmas.Bool.{eqb-true}
 use Rattle.listing.proofs.Rows.{row_is, cut_formats, no_formats}
 use Rattle.listing.proofs.text.row_formats.Goals as goal
 
-pub returns-then-is-empty : goal.returns-then-is-empty
-returns-then-is-empty c =
+pub returns-then-is_empty : goal.returns-then-is_empty
+returns-then-is_empty c =
     let row = take (c.min-end.result - c.min-start.result) (drop c.min-start.result c.args.chains.now) in
     let is = row_is c.args.chains.now c.args.k c.min-start.result c.min-end.result c.min-start.ensures c.min-end.ensures in
-    no_formats row (eqb-true (length row) 0 (sym c.is-empty.ensures ∙ c.if-is-empty.true)) ∙ ap (λ r. take (get_or r 0 0) (drop 1 r)) is
+    no_formats row (eqb-true (length row) 0 (sym c.is_empty.ensures ∙ c.if-is_empty.true)) ∙ ap (λ r. take (get_or r 0 0) (drop 1 r)) is
 
 pub returns : goal.returns
 returns c =

@@ -6,12 +6,12 @@ use Rattle.registers.proofs.house.delay_at.Goals as goal
 
 pub returns-then-lines : goal.returns-then-lines
 returns-then-lines c = record {
-  value = none_read _ _ (house_admitted c.args.place c.requires) c.number-at-lines.ensures c.if-lines.true;
+  value = none_read _ _ (house_admitted c.args.place c.requires) c.number_at-lines.ensures c.if-lines.true;
   admitted = tt;
 }
 
 pub returns-else-lines : goal.returns-else-lines
 returns-else-lines c =
-    let fits : SFits w32 c.number-at-lines.result = search rules in
-    let read = some_read (get_or house_cards c.args.place None) c.number-at-lines.result (house_admitted c.args.place c.requires) c.number-at-lines.ensures c.if-lines.false in
+    let fits : SFits w32 c.number_at-lines.result = search rules in
+    let read = some_read (get_or house_cards c.args.place None) c.number_at-lines.result (house_admitted c.args.place c.requires) c.number_at-lines.ensures c.if-lines.false in
     record { value = simp to_z-of_z read.0; admitted = simp to_z-of_z read.1 }

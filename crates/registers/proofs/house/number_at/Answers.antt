@@ -1,4 +1,4 @@
-use Rattle.std.proofs.Common.{◌∙◌, w32, SFits, rules}
+use Rattle.std.proofs.Common.{◌∙◌, w32, rules}
 use Rattle.std.proofs.lemmas.Int.{to_z-of_z}
 use Rattle.registers.proofs.HouseCards.{number_held}
 use Rattle.registers.proofs.house.number_at.Goals as goal

@@ -73,7 +73,7 @@ loop-place-preserved c =
       omega arith,
       c.if-not-take.ensures.goes
           ∙ run_more (to_come c.new-reader.result) c.args.text.now c.args.from c.loop-place.place (to_come c.loop-place.reader) c.loop-place.invariant.0 c.loop-place-test.true c.loop-place.invariant.1,
-      c.in-default.not-Over,
+      c.in_default.not-Over,
       c.if-not-take.ensures.small,
     )
 

@@ -9,17 +9,17 @@ loop-k-init g c = (c.told-codes, record { lines = []; through = λ p size. (refl
 
 pub loop-k-preserved : goal.loop-k-preserved
 loop-k-preserved g c = (
-  c.read-format.array_long,
+  c.read_format.array_long,
   formats_more g.C.Cost.algebra g.C.Cost.value g.C.TicketCost.reads c.args.text.now c.args.from c.args.n c.loop-k.k c.args.codes.now c.loop-k.codes c.loop-k.place
-      c.loop-k.invariant.1 (omega (arith, c.loop-k.invariant.0)) c.loop-k-test.true c.read-format.new.codes c.in-ok-place.place c.in-ok-place.ensures,
+      c.loop-k.invariant.1 (omega (arith, c.loop-k.invariant.0)) c.loop-k-test.true c.read_format.new.codes c.in_ok-place.place c.in_ok-place.ensures,
 )
 
-pub returns-in-err-place : goal.returns-in-err-place
-returns-in-err-place g c =
-    let p = err_from_is_err_and c.from-residual.result c.from-residual.ensures.1 in
+pub returns-in_err-place : goal.returns-in_err-place
+returns-in_err-place g c =
+    let p = err_from_is_err_and c.from_residual.result c.from_residual.ensures.1 in
     rw (p.1, p.2)
     (formats_stop g.C.Cost.algebra g.C.Cost.value g.C.TicketCost.reads c.args.text.now c.args.from c.args.n c.loop-k.k c.args.codes.now c.loop-k.codes c.loop-k.place
-    c.loop-k.invariant.1 (omega (arith, c.loop-k.invariant.0)) c.loop-k-test.true c.read-format.new.codes _ c.in-err-place.ensures)
+    c.loop-k.invariant.1 (omega (arith, c.loop-k.invariant.0)) c.loop-k-test.true c.read_format.new.codes _ c.in_err-place.ensures)
 
 pub returns : goal.returns
 returns g c =

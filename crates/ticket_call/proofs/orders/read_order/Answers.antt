@@ -15,38 +15,38 @@ pub returns-in-Err : goal.returns-in-Err
 returns-in-Err g c codes h =
     let p = plain g.C.Cost.algebra g.C.Cost.value g.R.Register.holds c.args.bay.now in
     let legs = c.requires ∙ sym (length-map (booked c.args.bay.now.legs) ends) in
-    unfit_line g.C.Cost.algebra g.C.Cost.value g.C.TicketCost.reads c.args.text.now _ c.args.at.place c.order-stage.result
-    (orders_due codes p c.args.at.legs c.order-stage.result h legs c.order-stage.ensures) c.in-Err.byte _ c.in-Err.ensures.line refl
+    unfit_line g.C.Cost.algebra g.C.Cost.value g.C.TicketCost.reads c.args.text.now _ c.args.at.place c.order_stage.result
+    (orders_due codes p c.args.at.legs c.order_stage.result h legs c.order_stage.ensures) c.in-Err.byte _ c.in-Err.ensures.line refl
 
-pub returns-in-err-at-byte : goal.returns-in-err-at-byte
-returns-in-err-at-byte g c =
+pub returns-in_err-at_byte : goal.returns-in_err-at_byte
+returns-in_err-at_byte g c =
     let fits : SFits w32 c.in-Card.cost = search rules in
-    let cost = simp to_z-of_z at c.of-number.ensures in
-    let q = err_from_is_err_and c.from-residual.result c.from-residual.ensures.1 in
+    let cost = simp to_z-of_z at c.of_number.ensures in
+    let q = err_from_is_err_and c.from_residual.result c.from_residual.ensures.1 in
     let p = plain g.C.Cost.algebra g.C.Cost.value g.R.Register.holds c.args.bay.now in
     let legs = c.requires ∙ sym (length-map (booked c.args.bay.now.legs) ends) in
-    rw (q.1, q.2) (card_refused g.C.Cost.algebra g.C.Cost.value g.C.TicketCost.reads c.args.text.now p p c.args.at.place c.order-stage.result c.args.at.legs legs c.order-stage.ensures
-    c.in-Ok.read c.in-Ok.ensures.line [] [] c.in-Card.from c.in-Card.to c.in-Card.cost c.of-number.result c.in-err-at-byte.field-0.0 c.in-Card.is cost
-    (refused_at c.args.at.place c.enter.result c.in-err-at-byte.field-0.0 (enter_causes p.register c.in-Card.from c.in-Card.to (g.C.Cost.algebra.admits (g.C.Cost.value c.of-number.result))) (sym c.at-byte.ensures ∙ c.in-err-at-byte.was) c.enter.ensures.answer))
+    rw (q.1, q.2) (card_refused g.C.Cost.algebra g.C.Cost.value g.C.TicketCost.reads c.args.text.now p p c.args.at.place c.order_stage.result c.args.at.legs legs c.order_stage.ensures
+    c.in-Ok.read c.in-Ok.ensures.line [] [] c.in-Card.from c.in-Card.to c.in-Card.cost c.of_number.result c.in_err-at_byte.field-0.0 c.in-Card.is cost
+    (refused_at c.args.at.place c.enter.result c.in_err-at_byte.field-0.0 (enter_causes p.register c.in-Card.from c.in-Card.to (g.C.Cost.algebra.admits (g.C.Cost.value c.of_number.result))) (sym c.at_byte.ensures ∙ c.in_err-at_byte.was) c.enter.ensures.answer))
 
-pub returns-in-ok-at-byte : goal.returns-in-ok-at-byte
-returns-in-ok-at-byte g c =
+pub returns-in_ok-at_byte : goal.returns-in_ok-at_byte
+returns-in_ok-at_byte g c =
     let fits : SFits w32 c.in-Card.cost = search rules in
-    let cost = simp to_z-of_z at c.of-number.ensures in
+    let cost = simp to_z-of_z at c.of_number.ensures in
     let p = plain g.C.Cost.algebra g.C.Cost.value g.R.Register.holds c.args.bay.now in
     let legs = c.requires ∙ sym (length-map (booked c.args.bay.now.legs) ends) in
-    let granted = granted_at c.args.at.place c.enter.result tt (enter_causes p.register c.in-Card.from c.in-Card.to (g.C.Cost.algebra.admits (g.C.Cost.value c.of-number.result))) (sym c.at-byte.ensures ∙ c.in-ok-at-byte.was) c.enter.ensures.answer in
-    card_taken g.C.Cost.algebra g.C.Cost.value g.C.TicketCost.reads c.args.text.now p (plain g.C.Cost.algebra g.C.Cost.value g.R.Register.holds c.enter.new.self) c.args.at.place c.order-stage.result c.args.at.legs legs c.order-stage.ensures
-    c.in-Ok.read c.in-Ok.ensures.line c.args.ends.now c.args.ends.now c.in-Card.from c.in-Card.to c.in-Card.cost c.of-number.result c.in-Card.is cost granted.1 granted.2 c.enter.ensures.after refl
+    let granted = granted_at c.args.at.place c.enter.result tt (enter_causes p.register c.in-Card.from c.in-Card.to (g.C.Cost.algebra.admits (g.C.Cost.value c.of_number.result))) (sym c.at_byte.ensures ∙ c.in_ok-at_byte.was) c.enter.ensures.answer in
+    card_taken g.C.Cost.algebra g.C.Cost.value g.C.TicketCost.reads c.args.text.now p (plain g.C.Cost.algebra g.C.Cost.value g.R.Register.holds c.enter.new.self) c.args.at.place c.order_stage.result c.args.at.legs legs c.order_stage.ensures
+    c.in-Ok.read c.in-Ok.ensures.line c.args.ends.now c.args.ends.now c.in-Card.from c.in-Card.to c.in-Card.cost c.of_number.result c.in-Card.is cost granted.1 granted.2 c.enter.ensures.after refl
 
-pub returns-in-err-number : goal.returns-in-err-number
-returns-in-err-number g c =
-    let q = err_from_is_err_and c.from-residual-in-err-number.result c.from-residual-in-err-number.ensures.1 in
+pub returns-in_err-number : goal.returns-in_err-number
+returns-in_err-number g c =
+    let q = err_from_is_err_and c.from_residual-in_err-number.result c.from_residual-in_err-number.ensures.1 in
     let p = plain g.C.Cost.algebra g.C.Cost.value g.R.Register.holds c.args.bay.now in
     let legs = c.requires ∙ sym (length-map (booked c.args.bay.now.legs) ends) in
-    rw (q.1, q.2) (leg_refused g.C.Cost.algebra g.C.Cost.value g.C.TicketCost.reads c.args.text.now p p c.args.at.place c.order-stage.result c.args.at.legs legs c.order-stage.ensures
-    c.in-Ok.read c.in-Ok.ensures.line [] [] c.in-Leg.from c.in-Leg.to c.in-err-number.field-0.0 c.in-Leg.is
-    (refused_at c.args.at.place c.book.result c.in-err-number.field-0.0 (book_causes p c.in-Leg.from c.in-Leg.to) (sym c.at-byte-in-Leg.ensures ∙ c.in-err-number.was) c.book.ensures.answer))
+    rw (q.1, q.2) (leg_refused g.C.Cost.algebra g.C.Cost.value g.C.TicketCost.reads c.args.text.now p p c.args.at.place c.order_stage.result c.args.at.legs legs c.order_stage.ensures
+    c.in-Ok.read c.in-Ok.ensures.line [] [] c.in-Leg.from c.in-Leg.to c.in_err-number.field-0.0 c.in-Leg.is
+    (refused_at c.args.at.place c.book.result c.in_err-number.field-0.0 (book_causes p c.in-Leg.from c.in-Leg.to) (sym c.at_byte-in-Leg.ensures ∙ c.in_err-number.was) c.book.ensures.answer))
 
 -- the number that a leg is answered with
 number_is : (r : Result ℕ BayFault) (k n : ℕ) → r ≡ Ok k → IfOk r (λ j. j ≡ n) → k ≡ n
@@ -55,14 +55,14 @@ number_is r k n e h = MatchResult-at_ok (λ j. j ≡ n) (λ _. Unit {0}) k e h
 pub bounds-ends-number : goal.bounds-ends-number
 bounds-ends-number g c =
     let p = plain g.C.Cost.algebra g.C.Cost.value g.R.Register.holds c.args.bay.now in
-    let granted = granted_at c.args.at.place c.book.result c.in-ok-number.number (book_causes p c.in-Leg.from c.in-Leg.to) (sym c.at-byte-in-Leg.ensures ∙ c.in-ok-number.was) c.book.ensures.answer in
-    omega (arith, number_is c.book.result c.in-ok-number.number _ granted.0 c.book.ensures.number, length-map (booked c.args.bay.now.legs) ends, book_room p c.in-Leg.from c.in-Leg.to granted.1)
+    let granted = granted_at c.args.at.place c.book.result c.in_ok-number.number (book_causes p c.in-Leg.from c.in-Leg.to) (sym c.at_byte-in-Leg.ensures ∙ c.in_ok-number.was) c.book.ensures.answer in
+    omega (arith, number_is c.book.result c.in_ok-number.number _ granted.0 c.book.ensures.number, length-map (booked c.args.bay.now.legs) ends, book_room p c.in-Leg.from c.in-Leg.to granted.1)
 
-pub returns-in-ok-number : goal.returns-in-ok-number
-returns-in-ok-number g c =
+pub returns-in_ok-number : goal.returns-in_ok-number
+returns-in_ok-number g c =
     let p = plain g.C.Cost.algebra g.C.Cost.value g.R.Register.holds c.args.bay.now in
     let legs = c.requires ∙ sym (length-map (booked c.args.bay.now.legs) ends) in
-    let granted = granted_at c.args.at.place c.book.result c.in-ok-number.number (book_causes p c.in-Leg.from c.in-Leg.to) (sym c.at-byte-in-Leg.ensures ∙ c.in-ok-number.was) c.book.ensures.answer in
-    leg_taken g.C.Cost.algebra g.C.Cost.value g.C.TicketCost.reads c.args.text.now p (plain g.C.Cost.algebra g.C.Cost.value g.R.Register.holds c.book.new.self) c.args.at.place c.order-stage.result c.args.at.legs legs c.order-stage.ensures
-    c.in-Ok.read c.in-Ok.ensures.line c.args.ends.now _ c.in-Leg.from c.in-Leg.to c.in-ok-number.number c.in-Leg.is granted.1 granted.2 c.book.ensures.after
-    (number_is c.book.result c.in-ok-number.number _ granted.0 c.book.ensures.number ∙ sym (length-map (booked c.args.bay.now.legs) ends)) refl
+    let granted = granted_at c.args.at.place c.book.result c.in_ok-number.number (book_causes p c.in-Leg.from c.in-Leg.to) (sym c.at_byte-in-Leg.ensures ∙ c.in_ok-number.was) c.book.ensures.answer in
+    leg_taken g.C.Cost.algebra g.C.Cost.value g.C.TicketCost.reads c.args.text.now p (plain g.C.Cost.algebra g.C.Cost.value g.R.Register.holds c.book.new.self) c.args.at.place c.order_stage.result c.args.at.legs legs c.order_stage.ensures
+    c.in-Ok.read c.in-Ok.ensures.line c.args.ends.now _ c.in-Leg.from c.in-Leg.to c.in_ok-number.number c.in-Leg.is granted.1 granted.2 c.book.ensures.after
+    (number_is c.book.result c.in_ok-number.number _ granted.0 c.book.ensures.number ∙ sym (length-map (booked c.args.bay.now.legs) ends)) refl

@@ -8,26 +8,26 @@ use Rattle.ticket_call.specs.Said.{said}
 use Rattle.ticket_call.proofs.Serving.{front_is, stops_after, completes_after}
 use Rattle.ticket_call.proofs.serve.route_lines.Goals as goal
 
-pub returns-in-err-orders : goal.returns-in-err-orders
-returns-in-err-orders g c =
-    let q = err_from_is_err_and c.from-residual.result c.from-residual.ensures.1 in
+pub returns-in_err-orders : goal.returns-in_err-orders
+returns-in_err-orders g c =
+    let q = err_from_is_err_and c.from_residual.result c.from_residual.ensures.1 in
     rw (q.1, q.2) (inl (record {
-      refusal = c.in-err-orders.field-0.0;
-      stops = c.in-err-orders.ensures (plain g.C.Cost.algebra g.C.Cost.value g.R.Register.holds c.args.bay.now) c.requires.size;
+      refusal = c.in_err-orders.field-0.0;
+      stops = c.in_err-orders.ensures (plain g.C.Cost.algebra g.C.Cost.value g.R.Register.holds c.args.bay.now) c.requires.size;
       answers = refl;
       untouched = record { table = refl; costs = refl; chains = refl };
     }))
 
-pub returns-in-err-end : goal.returns-in-err-end
-returns-in-err-end g c =
-    let q = err_from_is_err_and c.from-residual-in-err-end.result c.from-residual-in-err-end.ensures.1 in
+pub returns-in_err-end : goal.returns-in_err-end
+returns-in_err-end g c =
+    let q = err_from_is_err_and c.from_residual-in_err-end.result c.from_residual-in_err-end.ensures.1 in
     let p = plain g.C.Cost.algebra g.C.Cost.value g.R.Register.holds c.args.bay.now in
-    let formats = c.in-ok-orders.ensures in
-    let long = length-take-le c.args.n c.read-formats.new.codes (omega (arith, c.read-formats.array_long, c.requires.few)) in
+    let formats = c.in_ok-orders.ensures in
+    let long = length-take-le c.args.n c.read_formats.new.codes (omega (arith, c.read_formats.array_long, c.requires.few)) in
     rw (q.1, q.2) (inl (record {
-      refusal = c.in-err-end.field-0.0;
-      stops = stops_after g.C.Cost.algebra g.C.Cost.value g.C.TicketCost.reads c.args.text.now (said [] p) c.args.from formats.lines c.in-ok-orders.orders (said (take c.args.n c.read-formats.new.codes) p)
-          (formats.through p c.requires.size) (told_by c.in-err-end.field-0.0) (c.in-err-end.ensures (take c.args.n c.read-formats.new.codes) (omega (arith, long, c.requires.size)));
+      refusal = c.in_err-end.field-0.0;
+      stops = stops_after g.C.Cost.algebra g.C.Cost.value g.C.TicketCost.reads c.args.text.now (said [] p) c.args.from formats.lines c.in_ok-orders.orders (said (take c.args.n c.read_formats.new.codes) p)
+          (formats.through p c.requires.size) (told_by c.in_err-end.field-0.0) (c.in_err-end.ensures (take c.args.n c.read_formats.new.codes) (omega (arith, long, c.requires.size)));
       answers = refl;
       untouched = record { table = refl; costs = refl; chains = refl };
     }))
@@ -35,21 +35,21 @@ returns-in-err-end g c =
 pub returns : goal.returns
 returns g c =
     let p = plain g.C.Cost.algebra g.C.Cost.value g.R.Register.holds c.args.bay.now in
-    let p' = plain g.C.Cost.algebra g.C.Cost.value g.R.Register.holds c.read-orders.new.bay in
-    let formats = c.in-ok-orders.ensures in
-    let orders = c.in-ok-end.ensures in
-    let codes = take c.args.n c.read-formats.new.codes in
-    let long = length-take-le c.args.n c.read-formats.new.codes (omega (arith, c.read-formats.array_long, c.requires.few)) in
+    let p' = plain g.C.Cost.algebra g.C.Cost.value g.R.Register.holds c.read_orders.new.bay in
+    let formats = c.in_ok-orders.ensures in
+    let orders = c.in_ok-end.ensures in
+    let codes = take c.args.n c.read_formats.new.codes in
+    let long = length-take-le c.args.n c.read_formats.new.codes (omega (arith, c.read_formats.array_long, c.requires.few)) in
     inr (record {
-      place = c.in-ok-end.end;
+      place = c.in_ok-end.end;
       then = said codes p';
-      completes = completes_after g.C.Cost.algebra g.C.Cost.value g.C.TicketCost.reads c.args.text.now (said [] p) c.args.from formats.lines c.in-ok-orders.orders (said codes p)
-          (formats.through p c.requires.size) c.in-ok-end.end (said codes p') (orders.completes codes (omega (arith, long, c.requires.size)));
-      legs = booked c.read-orders.new.bay.legs;
+      completes = completes_after g.C.Cost.algebra g.C.Cost.value g.C.TicketCost.reads c.args.text.now (said [] p) c.args.from formats.lines c.in_ok-orders.orders (said codes p)
+          (formats.through p c.requires.size) c.in_ok-end.end (said codes p') (orders.completes codes (omega (arith, long, c.requires.size)));
+      legs = booked c.read_orders.new.bay.legs;
       noted = booked c.route.new.self.legs;
       result = c.route.result;
       route = c.route.ensures.answer;
-      answers = c.at-byte.ensures;
-      codes = front_is c.args.n c.read-formats.new.codes c.args.codes.now long formats.beyond;
+      answers = c.at_byte.ensures;
+      codes = front_is c.args.n c.read_formats.new.codes c.args.codes.now long formats.beyond;
       ends = orders.written;
     })

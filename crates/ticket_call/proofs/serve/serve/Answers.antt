@@ -8,9 +8,9 @@ use Rattle.ticket_call.specs.Said.{Said, begins}
 use Rattle.ticket_call.proofs.Serving.{bay_fits, size_few, nearest_is, list_begins, lines_with_entries, entries_beyond}
 use Rattle.ticket_call.proofs.serve.serve.Goals as goal
 
-pub route-lines-requires : goal.route-lines-requires
-route-lines-requires g c =
-    let fits = bay_fits c.args.n (length c.args.entries.now) (sym c.in-ok-judge-bay.ensures) in
+pub route_lines-requires : goal.route_lines-requires
+route_lines-requires g c =
+    let fits = bay_fits c.args.n (length c.args.entries.now) (sym c.in_ok-judge_bay.ensures) in
     record {
       size = ap (λ r. nearest_size r.n) c.new-bay.ensures.register ∙ ap nearest_size c.new.ensures.size ∙ nearest_is c.args.n fits.0;
       few = (size_few c.args.n fits.0).1;
@@ -21,7 +21,7 @@ pub returns : goal.returns
 returns g c =
     let A = g.C.Cost.algebra in
     let value = g.C.Cost.value in
-    let none = sym c.in-ok-judge-bay.ensures in
+    let none = sym c.in_ok-judge_bay.ensures in
     let fits = bay_fits c.args.n (length c.args.entries.now) none in
     let part = take 512 c.args.entries.now in
     let long = length-take-le 512 c.args.entries.now fits.1 in
@@ -31,7 +31,7 @@ returns g c =
       answered = inr (record {
         no_cause = none;
         lines = lines_with_entries A value g.C.TicketCost.reads c.args.text.now c.args.from c.args.entries.now _ c.args.table.now _ c.args.costs.now _ _ _ _ _ (begins c.args.n)
-            (λ i. record { codes = []; plain = record { register = made i; legs = ap (map ends) c.new-bay.ensures.legs i } }) c.route-lines.ensures;
+            (λ i. record { codes = []; plain = record { register = made i; legs = ap (map ends) c.new-bay.ensures.legs i } }) c.route_lines.ensures;
       });
       beyond = search (arith, entries_beyond);
     }

@@ -4,11 +4,11 @@ use Rattle.std.specs.Option.{option_map}
 use Rattle.walks.proofs.Passes.{held_new, held_better, held_kept}
 use Rattle.walks.proofs.eliminate.better.Goals as goal
 
-pub returns-in-default-held : goal.returns-in-default-held
-returns-in-default-held g c =
+pub returns-in_default-held : goal.returns-in_default-held
+returns-in_default-held g c =
     let means = option_map g.C.Cost.value in
     held_new g.met.C.Cost.lawful c.args.n c.requires.small _ _ c.requires.first c.requires.second _ _ _ (ap means c.in-Some.is) (ap means c.in-Some-second.is) c.join-sum.ensures
-    _ (ap means c.in-default-held.is)
+    _ (ap means c.in_default-held.is)
 
 pub returns-then-undercuts : goal.returns-then-undercuts
 returns-then-undercuts g c =

@@ -6,8 +6,8 @@ use Rattle.walks.proofs.eliminate.improve.Goals as goal
 pub better-requires : goal.better-requires
 better-requires g c = record {
   small = c.requires.ready.small;
-  first = λ x e. (c.requires.ready.near c.args.s c.requires.row.0 c.requires.row.1).0 x (read_is g.C.Cost.algebra g.C.Cost.value c.args.n c.args.s c.args.pivot c.args.cells.now c.cell-at-first.result _ c.cell-at-first.ensures refl ∙ e);
-  second = λ x e. (c.requires.ready.near c.args.t c.requires.column.0 c.requires.column.1).1 x (read_is g.C.Cost.algebra g.C.Cost.value c.args.n c.args.pivot c.args.t c.args.cells.now c.cell-at-second.result _ c.cell-at-second.ensures refl ∙ e);
+  first = λ x e. (c.requires.ready.near c.args.s c.requires.row.0 c.requires.row.1).0 x (read_is g.C.Cost.algebra g.C.Cost.value c.args.n c.args.s c.args.pivot c.args.cells.now c.cell_at-first.result _ c.cell_at-first.ensures refl ∙ e);
+  second = λ x e. (c.requires.ready.near c.args.t c.requires.column.0 c.requires.column.1).1 x (read_is g.C.Cost.algebra g.C.Cost.value c.args.n c.args.pivot c.args.t c.args.cells.now c.cell_at-second.result _ c.cell_at-second.ensures refl ∙ e);
 }
 
 pub offset-bounds-cells-s : goal.offset-bounds-cells-s
@@ -20,5 +20,5 @@ bounds-cells-s g c = omega (arith, place_lt _ _ _ c.requires.row.0 c.requires.co
 
 pub returns : goal.returns
 returns g c =
-    improved_read g.C.Cost.algebra g.C.Cost.value c.args.n c.args.pivot c.args.s c.args.t c.args.cells.now c.cell-at-card.result c.cell-at-first.result c.cell-at-second.result c.better.result
-    c.requires.ready.room c.requires.row.0 c.requires.column.0 c.requires.apart c.cell-at-card.ensures c.cell-at-first.ensures c.cell-at-second.ensures c.better.ensures
+    improved_read g.C.Cost.algebra g.C.Cost.value c.args.n c.args.pivot c.args.s c.args.t c.args.cells.now c.cell_at-card.result c.cell_at-first.result c.cell_at-second.result c.better.result
+    c.requires.ready.room c.requires.row.0 c.requires.column.0 c.requires.apart c.cell_at-card.ensures c.cell_at-first.ensures c.cell_at-second.ensures c.better.ensures

@@ -7,8 +7,8 @@ use Rattle.walks.proofs.eliminate.pass.Goals as goal
 pub loop-s-init : goal.loop-s-init
 loop-s-init g c = improved_none _ _ _ _ _ _ (λ s t h. absurd (omega arith))
 
-pub pass-row-requires : goal.pass-row-requires
-pass-row-requires g c = record {
+pub pass_row-requires : goal.pass_row-requires
+pass_row-requires g c = record {
   ready = ready_kept _ _ _ _ _ _ _ (λ j. (λ h. c.requires.square.2 h.2 h.3, λ h. c.requires.square.2 h.0 (omega arith))) c.loop-s.invariant c.requires.ready;
   row = (omega arith, λ e. c.requires.square.2 (omega arith) (omega arith));
   columns = c.requires.square;
@@ -16,7 +16,7 @@ pass-row-requires g c = record {
 
 pub loop-s-preserved : goal.loop-s-preserved
 loop-s-preserved g c =
-    block_down _ _ _ _ _ _ _ _ _ _ _ _ c.requires.ready.inside (omega arith) (omega arith) (λ l u. c.requires.square.2 l (omega arith)) c.requires.square.2 c.loop-s.invariant c.pass-row.ensures
+    block_down _ _ _ _ _ _ _ _ _ _ _ _ c.requires.ready.inside (omega arith) (omega arith) (λ l u. c.requires.square.2 l (omega arith)) c.requires.square.2 c.loop-s.invariant c.pass_row.ensures
 
 pub returns : goal.returns
 returns g c =

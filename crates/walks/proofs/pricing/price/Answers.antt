@@ -5,8 +5,8 @@ use Rattle.walks.proofs.pricing.price.Goals as goal
 pub loop-place-init : goal.loop-place-init
 loop-place-init g c = so_far_none g.met.Cost.Cost.lawful _ _ _ c.unit-total.ensures
 
-pub returns-in-default : goal.returns-in-default
-returns-in-default g c = (c.if-formats.false, omega arith, sym c.in-default.ensures.value, c.loop-place.invariant.stand)
+pub returns-in_default : goal.returns-in_default
+returns-in_default g c = (c.if-formats.false, omega arith, sym c.in_default.ensures.value, c.loop-place.invariant.stand)
 
 pub loop-place-preserved : goal.loop-place-preserved
 loop-place-preserved g c =

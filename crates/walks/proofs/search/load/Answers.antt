@@ -19,7 +19,7 @@ loop-k-preserved g c =
     let value = g.Cost.Cost.value in
     let card = upto c.args.high (standing (meant value (g.R.Register.holds c.args.register.now))) in (
       beyond_more _ _ _ _ _ c.loop-k-test.true c.loop-k.invariant.0,
-      loaded_more A value c.args.n card _ _ _ (omega arith) (fresh_made A value _ _ c.card-upto-card.ensures.value c.card-upto-card.ensures.admitted) c.loop-k.invariant.1,
+      loaded_more A value c.args.n card _ _ _ (omega arith) (fresh_made A value _ _ c.card_upto-card.ensures.value c.card_upto-card.ensures.admitted) c.loop-k.invariant.1,
     )
 
 pub returns : goal.returns

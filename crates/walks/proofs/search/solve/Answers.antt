@@ -14,11 +14,11 @@ returns g c =
     let card = standing m in
     let all = upto_all m.size card (standing_inside m) in
     let is = c.size-n.ensures.value in
-    let done = c.solve-upto.ensures in
-    let cells = c.solve-upto.new.cells in
+    let done = c.solve_upto.ensures in
+    let cells = c.solve_upto.new.cells in
     record {
       beyond = subst (λ n. Beyond (n * n) c.args.cells.now cells) is done.beyond;
       sound = subst (Sound A m.size) all (subst (λ n. Sound A n (upto n card)) is done.sound);
-      solved = subst (λ f. Solved A value m.size f cells c.solve-upto.result) all
-          (subst (λ n. Solved A value n (upto n card) cells c.solve-upto.result) is done.solved);
+      solved = subst (λ f. Solved A value m.size f cells c.solve_upto.result) all
+          (subst (λ n. Solved A value n (upto n card) cells c.solve_upto.result) is done.solved);
     }

@@ -10,7 +10,7 @@ use Rattle.walks.proofs.search.write_loop.Goals as goal
 pub trace-requires : goal.trace-requires
 trace-requires g c =
     let back = solved_back g.met.Cost.Cost.lawful g.Cost.Cost.value (g.R.Register.holds c.args.register.now) _ _ _ _
-    c.size-n.ensures.value c.size-n.ensures.bounds.1 c.requires.found c.solve-upto.ensures.sound c.solve-upto.ensures.solved in
+    c.size-n.ensures.value c.size-n.ensures.bounds.1 c.requires.found c.solve_upto.ensures.sound c.solve_upto.ensures.solved in
     record {
       laid = back.settled.laid;
       few = back.few;
@@ -20,12 +20,12 @@ trace-requires g c =
       clear = c.requires.clear;
     }
 
-pub way-out-from-requires : goal.way-out-from-requires
-way-out-from-requires g c =
+pub way_out-from-requires : goal.way_out-from-requires
+way_out-from-requires g c =
     let L = g.met.Cost.Cost.lawful in
     let m = meant g.Cost.Cost.value (g.R.Register.holds c.args.register.now) in
     let back = solved_back g.met.Cost.Cost.lawful g.Cost.Cost.value (g.R.Register.holds c.args.register.now) _ _ _ _
-    c.size-n.ensures.value c.size-n.ensures.bounds.1 c.requires.found c.solve-upto.ensures.sound c.solve-upto.ensures.solved in
+    c.size-n.ensures.value c.size-n.ensures.bounds.1 c.requires.found c.solve_upto.ensures.sound c.solve_upto.ensures.solved in
     record {
       room = back.settled.laid.room;
       few = back.few;
@@ -34,21 +34,21 @@ way-out-from-requires g c =
       some = turns_some L _ _ _ _ _ back (λ x e. (standing_inside m c.args.h c.args.h x e).2 refl) c.requires.found.1;
     }
 
-pub write-round-requires : goal.write-round-requires
-write-round-requires g c =
+pub write_round-requires : goal.write_round-requires
+write_round-requires g c =
     let back = solved_back g.met.Cost.Cost.lawful g.Cost.Cost.value (g.R.Register.holds c.args.register.now) _ _ _ _
-    c.size-n.ensures.value c.size-n.ensures.bounds.1 c.requires.found c.solve-upto.ensures.sound c.solve-upto.ensures.solved in
-    let loop = turns_loop g.met.Cost.Cost.lawful _ _ _ _ _ back c.trace.new.next _ c.way-out-from.ensures c.trace.ensures.traced in
+    c.size-n.ensures.value c.size-n.ensures.bounds.1 c.requires.found c.solve_upto.ensures.sound c.solve_upto.ensures.solved in
+    let loop = turns_loop g.met.Cost.Cost.lawful _ _ _ _ _ back c.trace.new.next _ c.way_out-from.ensures c.trace.ensures.traced in
     record { room = c.requires.row; leads = loop.4; inside = omega (arith, back.inside, back.few) }
 
 pub returns : goal.returns
 returns g c =
     let back = solved_back g.met.Cost.Cost.lawful g.Cost.Cost.value (g.R.Register.holds c.args.register.now) _ _ _ _
-    c.size-n.ensures.value c.size-n.ensures.bounds.1 c.requires.found c.solve-upto.ensures.sound c.solve-upto.ensures.solved in
-    let loop = turns_loop g.met.Cost.Cost.lawful _ _ _ _ _ back c.trace.new.next _ c.way-out-from.ensures c.trace.ensures.traced in
-    let from = c.way-out-from.result in
+    c.size-n.ensures.value c.size-n.ensures.bounds.1 c.requires.found c.solve_upto.ensures.sound c.solve_upto.ensures.solved in
+    let loop = turns_loop g.met.Cost.Cost.lawful _ _ _ _ _ back c.trace.new.next _ c.way_out-from.ensures c.trace.ensures.traced in
+    let from = c.way_out-from.result in
     record {
       clear = c.trace.ensures.clear;
-      beyond = subst (λ k. Beyond (k * k) c.args.cells.now c.solve-upto.new.cells) c.size-n.ensures.value c.solve-upto.ensures.beyond;
-      written = (from ∷ loop.0, loop.1, loop.2, c.write-round.ensures.written (path from loop.0 c.args.h) loop.3);
+      beyond = subst (λ k. Beyond (k * k) c.args.cells.now c.solve_upto.new.cells) c.size-n.ensures.value c.solve_upto.ensures.beyond;
+      written = (from ∷ loop.0, loop.1, loop.2, c.write_round.ensures.written (path from loop.0 c.args.h) loop.3);
     }

@@ -5,8 +5,8 @@ use Rattle.bay.proofs.bays.Bay.enter.Goals as goal
 
 pub returns : goal.returns
 returns g c =
-    let told = c.in-ok-enter.ensures in
-    let legs = c.open-all.ensures in
+    let told = c.in_ok-enter.ensures in
+    let legs = c.open_all.ensures in
     record {
       answer = told.answer;
       after = after_granted _ _ _ _ told.answer (λ i. record { register = told.after i; legs = (ap (map ends) legs ∙ ends_opened _) i });

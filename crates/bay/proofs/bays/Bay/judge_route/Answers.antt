@@ -7,5 +7,5 @@ use Rattle.bay.proofs.bays.Bay.judge_route.Goals as goal
 
 pub returns : goal.returns
 returns g c =
-    c.judge-room.ensures ∙
+    c.judge_room.ensures ∙
     ap₂ (λ legs n. first_cause (room_causes legs n c.args.cells c.args.entries c.args.bytes)) (c.len.ensures.value ∙ sym (length-map (booked c.args.self.now.legs) ends)) c.size.ensures.value

@@ -12,9 +12,9 @@ use Rattle.bay.proofs.Granted.{ends_opened}
 use Rattle.bay.proofs.RouteCall.{room_enough, table_beyond, table_once, loop_in_row, settled_cards, settled_laid, settled_calm, settled_least, ends_renoted}
 use Rattle.bay.proofs.bays.Bay.route.Goals as goal
 
-pub write-loop-requires : goal.write-loop-requires
-write-loop-requires g c =
-    let enough = room_enough (length (map ends (booked c.args.self.now.legs))) (g.R.Register.holds c.args.self.now.register).size (length c.args.table.now) (length c.args.costs.now) (length c.args.chains.now) c.in-ok-judge-route.ensures in
+pub write_loop-requires : goal.write_loop-requires
+write_loop-requires g c =
+    let enough = room_enough (length (map ends (booked c.args.self.now.legs))) (g.R.Register.holds c.args.self.now.register).size (length c.args.table.now) (length c.args.costs.now) (length c.args.chains.now) c.in_ok-judge_route.ensures in
     let told = c.in-Some.ensures in
     record {
       room = omega (arith, enough.table, told.beyond.long);
@@ -23,10 +23,10 @@ write-loop-requires g c =
       row = omega (arith, enough.rows, enough.some);
     }
 
-pub write-routes-requires : goal.write-routes-requires
-write-routes-requires g c =
+pub write_routes-requires : goal.write_routes-requires
+write_routes-requires g c =
     let legs = booked c.args.self.now.legs in
-    let enough = room_enough (length (map ends (booked c.args.self.now.legs))) (g.R.Register.holds c.args.self.now.register).size (length c.args.table.now) (length c.args.costs.now) (length c.args.chains.now) c.in-ok-judge-route.ensures in
+    let enough = room_enough (length (map ends (booked c.args.self.now.legs))) (g.R.Register.holds c.args.self.now.register).size (length c.args.table.now) (length c.args.costs.now) (length c.args.chains.now) c.in_ok-judge_route.ensures in
     let size = c.size-n.ensures.value in
     let value = g.Cost.Cost.value in
     let settled = c.in-None.ensures.solved in
@@ -44,21 +44,21 @@ pub returns-in-Some : goal.returns-in-Some
 returns-in-Some g c =
     let legs = booked c.args.self.now.legs in
     let n = (g.R.Register.holds c.args.self.now.register).size in
-    let enough = room_enough (length (map ends (booked c.args.self.now.legs))) (g.R.Register.holds c.args.self.now.register).size (length c.args.table.now) (length c.args.costs.now) (length c.args.chains.now) c.in-ok-judge-route.ensures in
+    let enough = room_enough (length (map ends (booked c.args.self.now.legs))) (g.R.Register.holds c.args.self.now.register).size (length c.args.table.now) (length c.args.costs.now) (length c.args.chains.now) c.in_ok-judge_route.ensures in
     let told = c.in-Some.ensures in
     let few : n ≤ 64 = omega (arith, c.size-n.ensures.value, c.size-n.ensures.bounds.1) in
     let row = loop_in_row g.met.Cost.Cost.lawful (standing (meant g.Cost.Cost.value (g.R.Register.holds c.args.self.now.register))) n told.sound few c.in-Some.h
-    c.args.chains.now c.write-loop.new.chains (omega (arith, enough.rows, enough.some)) c.write-loop.ensures.written in
-    let opened-legs = c.open-all.ensures in
+    c.args.chains.now c.write_loop.new.chains (omega (arith, enough.rows, enough.some)) c.write_loop.ensures.written in
+    let opened-legs = c.open_all.ensures in
     record {
       answer = inr (inl (record {
-        no_cause = sym c.in-ok-judge-route.ensures;
+        no_cause = sym c.in_ok-judge_route.ensures;
         answers = refl;
         loop = row.0;
         chains = row.1;
         costs = refl;
         legs = opened-legs;
-        table = table_beyond (n * n) c.args.table.now c.solve.new.cells c.write-loop.new.cells told.beyond c.write-loop.ensures.beyond;
+        table = table_beyond (n * n) c.args.table.now c.solve.new.cells c.write_loop.new.cells told.beyond c.write_loop.ensures.beyond;
       }));
       same = λ i. record { register = meant g.Cost.Cost.value (g.R.Register.holds c.args.self.now.register); legs = (ap (map ends) opened-legs ∙ ends_opened legs) i };
     }
@@ -66,25 +66,25 @@ returns-in-Some g c =
 pub returns-in-None : goal.returns-in-None
 returns-in-None g c =
     let legs = booked c.args.self.now.legs in
-    let after = booked c.write-routes.new.legs in
+    let after = booked c.write_routes.new.legs in
     let n = (g.R.Register.holds c.args.self.now.register).size in
     let A = g.Cost.Cost.algebra in
     let value = g.Cost.Cost.value in
     let told = c.in-None.ensures in
-    let wrote = c.write-routes.ensures in
+    let wrote = c.write_routes.ensures in
     let count = sym (length-map legs ends) in
     let cards = settled_cards value n c.size-n.result c.size-n.ensures.value (standing (meant value (g.R.Register.holds c.args.self.now.register))) c.solve.new.cells told.solved in
     record {
       answer = inr (inr (record {
-        no_cause = sym c.in-ok-judge-route.ensures;
+        no_cause = sym c.in_ok-judge_route.ensures;
         answers = ap Ok (c.len.ensures.value ∙ wrote.legs ∙ count);
         no_loop = told.solved.calm;
-        routed = λ d. subst (λ k. Routed A k (map ends legs) (row_at c.write-routes.new.chains) (λ j. value (get_or c.write-routes.new.costs j d))) cards (wrote.routed d);
-        chains = subst (λ k. Beyond (66 * k) c.args.chains.now c.write-routes.new.chains) count wrote.chains;
-        costs = subst (λ k. Beyond k c.args.costs.now c.write-routes.new.costs) count wrote.costs;
+        routed = λ d. subst (λ k. Routed A k (map ends legs) (row_at c.write_routes.new.chains) (λ j. value (get_or c.write_routes.new.costs j d))) cards (wrote.routed d);
+        chains = subst (λ k. Beyond (66 * k) c.args.chains.now c.write_routes.new.chains) count wrote.chains;
+        costs = subst (λ k. Beyond k c.args.costs.now c.write_routes.new.costs) count wrote.costs;
         legs = wrote.legs;
         notes = λ k h. wrote.notes k (omega (arith, count));
         table = table_once (n * n) c.args.table.now c.solve.new.cells told.beyond;
       }));
-      same = λ i. record { register = meant value (g.R.Register.holds c.args.self.now.register); legs = ends_renoted legs after (λ k. note_of (row_at c.write-routes.new.chains k)) wrote.legs wrote.notes i };
+      same = λ i. record { register = meant value (g.R.Register.holds c.args.self.now.register); legs = ends_renoted legs after (λ k. note_of (row_at c.write_routes.new.chains k)) wrote.legs wrote.notes i };
     }

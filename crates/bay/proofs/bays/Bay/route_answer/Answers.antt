@@ -27,8 +27,8 @@ fill-requires g c =
       chains = omega (arith, is, enough.rows, done.chains.long);
     }
 
-pub into-row-requires : goal.into-row-requires
-into-row-requires g c =
+pub into_row-requires : goal.into_row-requires
+into_row-requires g c =
     let done = was_loop g.Cost.Cost.algebra g.Cost.Cost.value (plain g.Cost.Cost.algebra g.Cost.Cost.value g.R.Register.holds c.args.self.now)
     (record { legs = booked c.args.self.now.legs; table = c.args.table.now; costs = c.args.costs.now; chains = c.args.chains.now })
     (record { legs = booked c.route.new.self.legs; table = c.route.new.table; costs = c.route.new.costs; chains = c.route.new.chains }) c.in-Err.fault c.in-Loop.is c.in-Err.ensures.answer in
@@ -57,17 +57,17 @@ returns-in-Loop g c =
     (record { legs = booked c.route.new.self.legs; table = c.route.new.table; costs = c.route.new.costs; chains = c.route.new.chains }) c.in-Err.fault c.in-Loop.is route.answer in
     let told = told_loop g.Cost.Cost.algebra g.Cost.Cost.value (plain g.Cost.Cost.algebra g.Cost.Cost.value g.R.Register.holds c.args.self.now)
     (record { legs = booked c.args.self.now.legs; table = c.args.table.now; costs = c.args.costs.now; chains = c.args.chains.now })
-    (record { legs = booked c.route.new.self.legs; table = c.route.new.table; costs = c.route.new.costs; chains = c.route.new.chains }) c.into-row.result _ done c.into-row.ensures in
+    (record { legs = booked c.route.new.self.legs; table = c.route.new.table; costs = c.route.new.costs; chains = c.route.new.chains }) c.into_row.result _ done c.into_row.ensures in
     record { right = told.right; same = route.same; legs = told.legs; table = done.table; costs = told.costs; chains = told.chains }
 
-pub returns-in-default : goal.returns-in-default
-returns-in-default g c =
+pub returns-in_default : goal.returns-in_default
+returns-in_default g c =
     let route = c.in-Err.ensures in
     let told = told_turned g.Cost.Cost.algebra g.Cost.Cost.value (plain g.Cost.Cost.algebra g.Cost.Cost.value g.R.Register.holds c.args.self.now)
     (record { legs = booked c.args.self.now.legs; table = c.args.table.now; costs = c.args.costs.now; chains = c.args.chains.now })
     (record { legs = booked c.route.new.self.legs; table = c.route.new.table; costs = c.route.new.costs; chains = c.route.new.chains }) c.in-Err.fault (was_turned g.Cost.Cost.algebra g.Cost.Cost.value (plain g.Cost.Cost.algebra g.Cost.Cost.value g.R.Register.holds c.args.self.now)
     (record { legs = booked c.args.self.now.legs; table = c.args.table.now; costs = c.args.costs.now; chains = c.args.chains.now })
-    (record { legs = booked c.route.new.self.legs; table = c.route.new.table; costs = c.route.new.costs; chains = c.route.new.chains }) c.in-Err.fault c.in-default.not-Loop route.answer) in
+    (record { legs = booked c.route.new.self.legs; table = c.route.new.table; costs = c.route.new.costs; chains = c.route.new.chains }) c.in-Err.fault c.in_default.not-Loop route.answer) in
     record {
       right = told.right;
       same = route.same;

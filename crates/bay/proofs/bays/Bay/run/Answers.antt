@@ -16,13 +16,13 @@ loop-call-init g c =
 
 pub loop-call-preserved : goal.loop-call-preserved
 loop-call-preserved g c =
-    let pushed = c.push-reserved.ensures in
+    let pushed = c.push_reserved.ensures in
     let inv = c.loop-call.invariant in (
       omega (arith, pushed.len, inv.0),
       omega (arith, pushed.capacity, inv.1),
       omega arith,
       run_turn g.Cost.Cost.algebra g.Cost.Cost.value (plain g.Cost.Cost.algebra g.Cost.Cost.value g.R.Register.holds c.args.self.now) (plain g.Cost.Cost.algebra g.Cost.Cost.value g.R.Register.holds c.loop-call.self) (plain g.Cost.Cost.algebra g.Cost.Cost.value g.R.Register.holds c.call.new.self)
-          (record { legs = booked c.args.self.now.legs; table = c.args.table.now; costs = c.args.costs.now; chains = c.args.chains.now }) (record { legs = booked c.loop-call.self.legs; table = c.loop-call.table; costs = c.loop-call.costs; chains = c.loop-call.chains }) (record { legs = booked c.call.new.self.legs; table = c.call.new.table; costs = c.call.new.costs; chains = c.call.new.chains }) c.args.calls.now c.loop-call.call-index (vec_items c.loop-call.answers) (vec_items c.push-reserved.new.self) c.call-item.result c.in-Ok-call.answer
+          (record { legs = booked c.args.self.now.legs; table = c.args.table.now; costs = c.args.costs.now; chains = c.args.chains.now }) (record { legs = booked c.loop-call.self.legs; table = c.loop-call.table; costs = c.loop-call.costs; chains = c.loop-call.chains }) (record { legs = booked c.call.new.self.legs; table = c.call.new.table; costs = c.call.new.costs; chains = c.call.new.chains }) c.args.calls.now c.loop-call.call-index (vec_items c.loop-call.answers) (vec_items c.push_reserved.new.self) c.call-item.result c.in-Ok-call.answer
           c.loop-call-test.true c.call-item.is pushed.items c.loop-call.auto.costs c.loop-call.auto.chains inv.3 c.in-Ok-call.ensures,
     )
 

@@ -5,8 +5,8 @@ use Rattle.bay.proofs.bays.Bay.withdraw.Goals as goal
 
 pub returns : goal.returns
 returns g c =
-    let told = c.in-ok-withdraw.ensures in
-    let legs = c.open-all.ensures in
+    let told = c.in_ok-withdraw.ensures in
+    let legs = c.open_all.ensures in
     record {
       answer = told.answer;
       after = after_granted _ _ _ _ told.answer (λ i. record { register = told.after i; legs = (ap (map ends) legs ∙ ends_opened _) i });

@@ -8,22 +8,22 @@ use Rattle.lent.proofs.matrix.MatrixRegister.withdraw.Goals as goal
 
 pub bounds-self-cleared : goal.bounds-self-cleared
 bounds-self-cleared g c =
-    pair_below g.row.C-Cost.value (admitted_by g.row.C-Cost.algebra g.row.C-Cost.value) c.args.self.now.n c.args.self.now.places.now c.args.from c.args.to _ c.nearest_size.ensures c.in-ok-judge-ends.ensures c.if-not-matrix-fits.ensures
+    pair_below g.C.Cost.value (admitted_by g.C.Cost.algebra g.C.Cost.value) c.args.self.now.n c.args.self.now.places.now c.args.from c.args.to _ c.nearest_size.ensures c.in_ok-judge_ends.ensures c.if-not-matrix_fits.ensures
 
 pub offset-bounds-self-cleared : goal.offset-bounds-self-cleared
 offset-bounds-self-cleared g c =
-    let below = pair_below g.row.C-Cost.value (admitted_by g.row.C-Cost.algebra g.row.C-Cost.value) c.args.self.now.n c.args.self.now.places.now c.args.from c.args.to _ c.nearest_size.ensures c.in-ok-judge-ends.ensures c.if-not-matrix-fits.ensures in
+    let below = pair_below g.C.Cost.value (admitted_by g.C.Cost.algebra g.C.Cost.value) c.args.self.now.n c.args.self.now.places.now c.args.from c.args.to _ c.nearest_size.ensures c.in_ok-judge_ends.ensures c.if-not-matrix_fits.ensures in
     search rules
 
-pub returns-in-err-judge-ends : goal.returns-in-err-judge-ends
-returns-in-err-judge-ends g c =
-    let p = err_from_is_err_and c.from-residual.result c.from-residual.ensures.1 in
-    rw (p.1, p.2) (record { answer = withdraw_ends_refused (matrix_means g.row.C-Cost.algebra g.row.C-Cost.value c.args.self.now) _ _ _ _ c.nearest_size.ensures c.in-err-judge-ends.ensures; after = refl; memory = refl; size = refl; lent = refl })
+pub returns-in_err-judge_ends : goal.returns-in_err-judge_ends
+returns-in_err-judge_ends g c =
+    let p = err_from_is_err_and c.from_residual.result c.from_residual.ensures.1 in
+    rw (p.1, p.2) (record { answer = withdraw_ends_refused (matrix_means g.C.Cost.algebra g.C.Cost.value c.args.self.now) _ _ _ _ c.nearest_size.ensures c.in_err-judge_ends.ensures; after = refl; memory = refl; size = refl; lent = refl })
 
 pub returns : goal.returns
 returns g c = record {
-  answer = matrix_withdraw_answer g.row.C-Cost.value (admitted_by g.row.C-Cost.algebra g.row.C-Cost.value) c.args.self.now.n c.args.self.now.places.now c.args.from c.args.to _ c.nearest_size.ensures c.in-ok-judge-ends.ensures c.if-not-matrix-fits.ensures c.card.result c.card.ensures.value c.if-is-none.ensures;
-  after = matrix_withdraw_after g.row.C-Cost.value (admitted_by g.row.C-Cost.algebra g.row.C-Cost.value) c.args.self.now.n c.args.self.now.places.now c.args.from c.args.to _ c.nearest_size.ensures c.in-ok-judge-ends.ensures c.if-not-matrix-fits.ensures c.card.result c.card.ensures.value c.if-is-none.ensures;
+  answer = matrix_withdraw_answer g.C.Cost.value (admitted_by g.C.Cost.algebra g.C.Cost.value) c.args.self.now.n c.args.self.now.places.now c.args.from c.args.to _ c.nearest_size.ensures c.in_ok-judge_ends.ensures c.if-not-matrix_fits.ensures c.card.result c.card.ensures.value c.if-is_none.ensures;
+  after = matrix_withdraw_after g.C.Cost.value (admitted_by g.C.Cost.algebra g.C.Cost.value) c.args.self.now.n c.args.self.now.places.now c.args.from c.args.to _ c.nearest_size.ensures c.in_ok-judge_ends.ensures c.if-not-matrix_fits.ensures c.card.result c.card.ensures.value c.if-is_none.ensures;
   memory = refl;
   size = refl;
   lent = refl;

@@ -1,5 +1,5 @@
 -- Each call has fewer digits to write.
 use Rattle.listing.proofs.output.Output.+put_number.Given as goal
 
-abbrev pub decreases-put-number : goal.decreases-put-number
-decreases-put-number l = l.n
+abbrev pub decreases-put_number : goal.decreases-put_number
+decreases-put_number l = l.n

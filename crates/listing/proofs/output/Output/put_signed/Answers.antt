@@ -18,15 +18,15 @@ not_below (negsuc n) h = absurd (grind (arith, ints))
 pub returns : goal.returns
 returns c =
     let same = to_z-of_z w32 c.args.z c.ranges.z in
-    let size = c.unsigned-abs.ensures.value ∙ ap nat_abs same in
+    let size = c.unsigned_abs.ensures.value ∙ ap nat_abs same in
     elim c.if-z-lt0.branch [
       | then-z-lt0 w ↦
-          writes_is c.args.self.now c.put-number.new.self (45 ∷ decimal c.unsigned-abs.result) (signed_decimal c.args.z)
+          writes_is c.args.self.now c.put_number.new.self (45 ∷ decimal c.unsigned_abs.result) (signed_decimal c.args.z)
           (ap (λ n. 45 ∷ decimal n) size ∙ below_zero c.args.z (ap (λ z. lt_z z (pos 0)) (sym same) ∙ w.if-z-lt0.true))
-          (writes_both c.args.self.now w.put.new.self c.put-number.new.self (45 ∷ []) (decimal c.unsigned-abs.result) w.put.ensures
-          (subst (λ o. Writes o c.put-number.new.self (decimal c.unsigned-abs.result)) w.self-is c.put-number.ensures))
+          (writes_both c.args.self.now w.put.new.self c.put_number.new.self (45 ∷ []) (decimal c.unsigned_abs.result) w.put.ensures
+          (subst (λ o. Writes o c.put_number.new.self (decimal c.unsigned_abs.result)) w.self-is c.put_number.ensures))
       | else-z-lt0 w ↦
-          writes_is c.args.self.now c.put-number.new.self (decimal c.unsigned-abs.result) (signed_decimal c.args.z)
+          writes_is c.args.self.now c.put_number.new.self (decimal c.unsigned_abs.result) (signed_decimal c.args.z)
           (ap decimal size ∙ not_below c.args.z (ap (λ z. lt_z z (pos 0)) (sym same) ∙ w.if-z-lt0.false))
-          (subst (λ o. Writes o c.put-number.new.self (decimal c.unsigned-abs.result)) w.self-is c.put-number.ensures)
+          (subst (λ o. Writes o c.put_number.new.self (decimal c.unsigned_abs.result)) w.self-is c.put_number.ensures)
     ]

@@ -17,8 +17,8 @@ returns-in-End c = record {
   small = search rules;
 }
 
-pub returns-in-default : goal.returns-in-default
-returns-in-default c = record {
-  goes = open_words _ c.in-default.not-End ∙ ap (λ t. after_byte t 41) (word_over c.args.self.now _ _ c.requires c.letters.ensures c.if-self-letters.false refl);
+pub returns-in_default : goal.returns-in_default
+returns-in_default c = record {
+  goes = open_words _ c.in_default.not-End ∙ ap (λ t. after_byte t 41) (word_over c.args.self.now _ _ c.requires c.letters.ensures c.if-self-letters.false refl);
   small = search rules;
 }

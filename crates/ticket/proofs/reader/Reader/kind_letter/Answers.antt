@@ -5,8 +5,8 @@ use Rattle.ticket.proofs.Steps.{kind_over}
 use Rattle.std.proofs.lemmas.Bool.Decides.{nat_tests}
 use Rattle.ticket.proofs.reader.Reader.kind_letter.Goals as goal
 
-pub returns-in-default : goal.returns-in-default
-returns-in-default c =
+pub returns-in_default : goal.returns-in_default
+returns-in_default c =
     let e : kind_choice ≡ to_come c.args.self.now = kind_over c.args.self.now c.requires.at (omega arith) in
     record {
       goes = subst (λ t. dead ≡ after_byte t c.args.sign) e (grind (arith, nat_tests));
