@@ -46,8 +46,8 @@ impl<R: Register> Bay<R> {
 
     // Sets a card; granted, every note becomes open.
     pub fn enter(&mut self, from: Format, to: Format, cost: R::Cost) -> Result<(), BayFault>
-        ensures answer { refused result ≡ first_cause (enter_causes (meant R.Cost.Cost.value (holds self.old.register)) from to (R.Cost.Cost.algebra.admits (R.Cost.Cost.value cost))) }
-        ensures after { plain R.Cost.Cost.algebra R.Cost.Cost.value holds self.new ≡ step R.Cost.Cost.algebra R.Cost.Cost.value (plain R.Cost.Cost.algebra R.Cost.Cost.value holds self.old) (Enter from to cost) }
+        ensures answer { refused result ≡ first_cause (enter_causes (meant R.Cost.Cost.value (R.Register.holds self.old.register)) from to (R.Cost.Cost.algebra.admits (R.Cost.Cost.value cost))) }
+        ensures after { plain R.Cost.Cost.algebra R.Cost.Cost.value R.Register.holds self.new ≡ step R.Cost.Cost.algebra R.Cost.Cost.value (plain R.Cost.Cost.algebra R.Cost.Cost.value R.Register.holds self.old) (Enter from to cost) }
         ensures notes { booked self.new.legs ≡ after (refused result) (booked self.old.legs) (opened (booked self.old.legs)) }
     {
         self.register.enter(from, to, cost)?;
@@ -57,8 +57,8 @@ impl<R: Register> Bay<R> {
 
     // Removes a card; granted, every note becomes open.
     pub fn withdraw(&mut self, from: Format, to: Format) -> Result<(), BayFault>
-        ensures answer { refused result ≡ first_cause (withdraw_causes (meant R.Cost.Cost.value (holds self.old.register)) from to) }
-        ensures after { plain R.Cost.Cost.algebra R.Cost.Cost.value holds self.new ≡ step R.Cost.Cost.algebra R.Cost.Cost.value (plain R.Cost.Cost.algebra R.Cost.Cost.value holds self.old) (Withdraw from to) }
+        ensures answer { refused result ≡ first_cause (withdraw_causes (meant R.Cost.Cost.value (R.Register.holds self.old.register)) from to) }
+        ensures after { plain R.Cost.Cost.algebra R.Cost.Cost.value R.Register.holds self.new ≡ step R.Cost.Cost.algebra R.Cost.Cost.value (plain R.Cost.Cost.algebra R.Cost.Cost.value R.Register.holds self.old) (Withdraw from to) }
         ensures notes { booked self.new.legs ≡ after (refused result) (booked self.old.legs) (opened (booked self.old.legs)) }
     {
         self.register.withdraw(from, to)?;
@@ -68,9 +68,9 @@ impl<R: Register> Bay<R> {
 
     // Puts an open leg at the end and answers its number.
     pub fn book(&mut self, from: Format, to: Format) -> Result<usize, BayFault>
-        ensures answer { refused result ≡ first_cause (book_causes (plain R.Cost.Cost.algebra R.Cost.Cost.value holds self.old) from to) }
+        ensures answer { refused result ≡ first_cause (book_causes (plain R.Cost.Cost.algebra R.Cost.Cost.value R.Register.holds self.old) from to) }
         ensures number { IfOk result (λ k. k ≡ length (booked self.old.legs)) }
-        ensures after { plain R.Cost.Cost.algebra R.Cost.Cost.value holds self.new ≡ step R.Cost.Cost.algebra R.Cost.Cost.value (plain R.Cost.Cost.algebra R.Cost.Cost.value holds self.old) (Book from to) }
+        ensures after { plain R.Cost.Cost.algebra R.Cost.Cost.value R.Register.holds self.new ≡ step R.Cost.Cost.algebra R.Cost.Cost.value (plain R.Cost.Cost.algebra R.Cost.Cost.value R.Register.holds self.old) (Book from to) }
         ensures notes { booked self.new.legs ≡ after (refused result) (booked self.old.legs) (booked self.old.legs ++ open_leg from to ∷ []) }
     {
         judge_ends(self.register.size(), from, to)?;
@@ -88,8 +88,8 @@ impl<R: Register> Bay<R> {
 
     // Takes one leg out; later legs move down by one.
     pub fn strike(&mut self, number: usize) -> Result<(), BayFault>
-        ensures answer { refused result ≡ first_cause (leg_causes (plain R.Cost.Cost.algebra R.Cost.Cost.value holds self.old) number) }
-        ensures after { plain R.Cost.Cost.algebra R.Cost.Cost.value holds self.new ≡ step R.Cost.Cost.algebra R.Cost.Cost.value (plain R.Cost.Cost.algebra R.Cost.Cost.value holds self.old) (Strike number) }
+        ensures answer { refused result ≡ first_cause (leg_causes (plain R.Cost.Cost.algebra R.Cost.Cost.value R.Register.holds self.old) number) }
+        ensures after { plain R.Cost.Cost.algebra R.Cost.Cost.value R.Register.holds self.new ≡ step R.Cost.Cost.algebra R.Cost.Cost.value (plain R.Cost.Cost.algebra R.Cost.Cost.value R.Register.holds self.old) (Strike number) }
         ensures notes { booked self.new.legs ≡ after (refused result) (booked self.old.legs) (struck number (booked self.old.legs)) }
     {
         if number >= self.legs.len() {
@@ -101,7 +101,7 @@ impl<R: Register> Bay<R> {
 
     // One leg's ends and note.
     pub fn show(&self, number: usize) -> Result<Leg, BayFault>
-        ensures answer { refused result ≡ first_cause (leg_causes (plain R.Cost.Cost.algebra R.Cost.Cost.value holds self.now) number) }
+        ensures answer { refused result ≡ first_cause (leg_causes (plain R.Cost.Cost.algebra R.Cost.Cost.value R.Register.holds self.now) number) }
         ensures leg { IfOk result (λ leg. leg ≡ slice_index_or (booked self.now.legs) number no_leg) }
     {
         self.legs.get(number).ok_or(BayFault::NoLeg)

@@ -18,7 +18,7 @@ use walks::{Cell, solve, write_loop};
 impl<R: Register> Bay<R> {
     // What is judged before a card is looked at: that there are legs, and that the table and the sheets are long enough.
     fn judge_route(&self, cells: usize, entries: usize, bytes: usize) -> Result<(), BayFault>
-        ensures { refused result ≡ first_cause (route_causes (plain Cost-as-Cost.algebra Cost-as-Cost.value holds self.now) cells entries bytes) }
+        ensures { refused result ≡ first_cause (route_causes (plain R.Cost.Cost.algebra R.Cost.Cost.value R.Register.holds self.now) cells entries bytes) }
     {
         judge_room(self.legs.len(), self.register.size(), cells, entries, bytes)
     }
@@ -31,8 +31,8 @@ impl<R: Register> Bay<R> {
         costs: &mut [R::Cost],
         chains: &mut [u8],
     ) -> Result<usize, BayFault>
-        ensures answer { RouteAnswer R.Cost.Cost.algebra R.Cost.Cost.value (plain R.Cost.Cost.algebra R.Cost.Cost.value holds self.old) (record { legs = booked self.old.legs; table = table.old; costs = costs.old; chains = chains.old }) (record { legs = booked self.new.legs; table = table.new; costs = costs.new; chains = chains.new }) result }
-        ensures same { plain R.Cost.Cost.algebra R.Cost.Cost.value holds self.new ≡ plain R.Cost.Cost.algebra R.Cost.Cost.value holds self.old }
+        ensures answer { RouteAnswer R.Cost.Cost.algebra R.Cost.Cost.value (plain R.Cost.Cost.algebra R.Cost.Cost.value R.Register.holds self.old) (record { legs = booked self.old.legs; table = table.old; costs = costs.old; chains = chains.old }) (record { legs = booked self.new.legs; table = table.new; costs = costs.new; chains = chains.new }) result }
+        ensures same { plain R.Cost.Cost.algebra R.Cost.Cost.value R.Register.holds self.new ≡ plain R.Cost.Cost.algebra R.Cost.Cost.value R.Register.holds self.old }
     {
         self.judge_route(table.len(), costs.len(), chains.len())?;
         let n = self.register.size();

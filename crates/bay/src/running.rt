@@ -67,10 +67,10 @@ impl<R: Register> Bay<R> {
         chains: &mut [u8],
     ) -> Answer<R::Cost>
         requires { Reserved told }
-        ensures right { Right R.Cost.Cost.algebra R.Cost.Cost.value (record { cells = length table.old; entries = length costs.old; bytes = length chains.old }) (plain R.Cost.Cost.algebra R.Cost.Cost.value holds self.old) (booked self.old.legs) Route result }
-        ensures same { plain R.Cost.Cost.algebra R.Cost.Cost.value holds self.new ≡ plain R.Cost.Cost.algebra R.Cost.Cost.value holds self.old }
+        ensures right { Right R.Cost.Cost.algebra R.Cost.Cost.value (record { cells = length table.old; entries = length costs.old; bytes = length chains.old }) (plain R.Cost.Cost.algebra R.Cost.Cost.value R.Register.holds self.old) (booked self.old.legs) Route result }
+        ensures same { plain R.Cost.Cost.algebra R.Cost.Cost.value R.Register.holds self.new ≡ plain R.Cost.Cost.algebra R.Cost.Cost.value R.Register.holds self.old }
         ensures legs { booked self.new.legs ≡ route_notes result (booked self.old.legs) }
-        ensures table { Beyond ((holds self.old.register).size * (holds self.old.register).size) table.old table.new }
+        ensures table { Beyond ((R.Register.holds self.old.register).size * (R.Register.holds self.old.register).size) table.old table.new }
         ensures costs { costs.new ≡ costs_step costs.old result }
         ensures chains { chains.new ≡ chains_step chains.old result }
     {
@@ -95,7 +95,7 @@ impl<R: Register> Bay<R> {
         costs: &mut [R::Cost],
         chains: &mut [u8],
     ) -> Result<Answer<R::Cost>, AllocError>
-        ensures { MatchResult result (λ answer. CallDone R.Cost.Cost.algebra R.Cost.Cost.value (plain R.Cost.Cost.algebra R.Cost.Cost.value holds self.old) (plain R.Cost.Cost.algebra R.Cost.Cost.value holds self.new) (record { legs = booked self.old.legs; table = table.old; costs = costs.old; chains = chains.old }) (record { legs = booked self.new.legs; table = table.new; costs = costs.new; chains = chains.new }) call answer) (λ _. Unmade R.Cost.Cost.algebra R.Cost.Cost.value (plain R.Cost.Cost.algebra R.Cost.Cost.value holds self.old) (plain R.Cost.Cost.algebra R.Cost.Cost.value holds self.new) (record { legs = booked self.old.legs; table = table.old; costs = costs.old; chains = chains.old }) (record { legs = booked self.new.legs; table = table.new; costs = costs.new; chains = chains.new })) }
+        ensures { MatchResult result (λ answer. CallDone R.Cost.Cost.algebra R.Cost.Cost.value (plain R.Cost.Cost.algebra R.Cost.Cost.value R.Register.holds self.old) (plain R.Cost.Cost.algebra R.Cost.Cost.value R.Register.holds self.new) (record { legs = booked self.old.legs; table = table.old; costs = costs.old; chains = chains.old }) (record { legs = booked self.new.legs; table = table.new; costs = costs.new; chains = chains.new }) call answer) (λ _. Unmade R.Cost.Cost.algebra R.Cost.Cost.value (plain R.Cost.Cost.algebra R.Cost.Cost.value R.Register.holds self.old) (plain R.Cost.Cost.algebra R.Cost.Cost.value R.Register.holds self.new) (record { legs = booked self.old.legs; table = table.old; costs = costs.old; chains = chains.old }) (record { legs = booked self.new.legs; table = table.new; costs = costs.new; chains = chains.new })) }
     {
         match call {
             Call::Enter { from, to, cost } => match self.enter(from, to, cost) {
@@ -134,7 +134,7 @@ impl<R: Register> Bay<R> {
         costs: &mut [R::Cost],
         chains: &mut [u8],
     ) -> Result<Vec<Answer<R::Cost>>, Stopped<R::Cost>>
-        ensures { MatchResult result (λ answers. RunDone R.Cost.Cost.algebra R.Cost.Cost.value (plain R.Cost.Cost.algebra R.Cost.Cost.value holds self.old) (plain R.Cost.Cost.algebra R.Cost.Cost.value holds self.new) (record { legs = booked self.old.legs; table = table.old; costs = costs.old; chains = chains.old }) (record { legs = booked self.new.legs; table = table.new; costs = costs.new; chains = chains.new }) calls.now answers.items) (λ stopped. RunDone R.Cost.Cost.algebra R.Cost.Cost.value (plain R.Cost.Cost.algebra R.Cost.Cost.value holds self.old) (plain R.Cost.Cost.algebra R.Cost.Cost.value holds self.new) (record { legs = booked self.old.legs; table = table.old; costs = costs.old; chains = chains.old }) (record { legs = booked self.new.legs; table = table.new; costs = costs.new; chains = chains.new }) (take (length stopped.answers.items) calls.now) stopped.answers.items) }
+        ensures { MatchResult result (λ answers. RunDone R.Cost.Cost.algebra R.Cost.Cost.value (plain R.Cost.Cost.algebra R.Cost.Cost.value R.Register.holds self.old) (plain R.Cost.Cost.algebra R.Cost.Cost.value R.Register.holds self.new) (record { legs = booked self.old.legs; table = table.old; costs = costs.old; chains = chains.old }) (record { legs = booked self.new.legs; table = table.new; costs = costs.new; chains = chains.new }) calls.now answers.items) (λ stopped. RunDone R.Cost.Cost.algebra R.Cost.Cost.value (plain R.Cost.Cost.algebra R.Cost.Cost.value R.Register.holds self.old) (plain R.Cost.Cost.algebra R.Cost.Cost.value R.Register.holds self.new) (record { legs = booked self.old.legs; table = table.old; costs = costs.old; chains = chains.old }) (record { legs = booked self.new.legs; table = table.new; costs = costs.new; chains = chains.new }) (take (length stopped.answers.items) calls.now) stopped.answers.items) }
     {
         let Ok(mut answers) = Vec::with_capacity(heap, calls.len()) else {
             return Err(Stopped {

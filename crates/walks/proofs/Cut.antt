@@ -148,7 +148,7 @@ module _ {A : Algebra} (L : Lawful A) (card : ℕ → ℕ → Option A.Value) wh
       let e = at_most_both L c.1 x c.5 (least.1 c.1 (of_low L card h s t c.1 (c.0, c.2, c.4))) in
       let few = distinct_few h c.0 c.2 c.3 in
       let small = sound.small in
-      subst (λ y. A.Within (suc h) y) e (L.WithinMore (suc (length c.0)) (suc h) c.1 (omega arith) (omega arith) (runs_within n sound s c.0 t c.1 (omega arith) c.4))
+      subst (λ y. A.Within (suc h) y) e (L.within_more (suc (length c.0)) (suc h) c.1 (omega arith) (omega arith) (runs_within n sound s c.0 t c.1 (omega arith) c.4))
 
 pub cut_to_chain : {A : Algebra} → Lawful A → CutToChain A
 cut_to_chain {A} L card calm s t n ms w =
@@ -165,4 +165,4 @@ least_is_near {A} L n card sound calm s t d x ((ms, w, f), least) =
     let few = distinct_few n (path s c.0 t) (i.0, below_join n c.0 (t ∷ []) i.1 (i.2, tt)) c.2 in
     let size = length-append c.0 (t ∷ []) in
     let small = sound.small in
-    subst (λ y. A.Within (n - 1) y) e (L.WithinMore (suc (length c.0)) (n - 1) c.1 (omega arith) (omega arith) (runs_within L card n sound s c.0 t c.1 (omega arith) c.3))
+    subst (λ y. A.Within (n - 1) y) e (L.within_more (suc (length c.0)) (n - 1) c.1 (omega arith) (omega arith) (runs_within L card n sound s c.0 t c.1 (omega arith) c.3))

@@ -28,10 +28,10 @@ module _ {A : Algebra} (L : Lawful A) where
 
   pub at_most_trans : (a b c : A.Value) → AtMost A a b → AtMost A b c → AtMost A a c
   at_most_trans a b c p q u =
-      elim (L.one_of_lem a b) [ inl v ↦ q (L.trans c a b u v) | inr (inl e) ↦ q (subst (λ x. A.Under c x) e u) | inr (inr v) ↦ p v ]
+      elim (L.one_of a b) [ inl v ↦ q (L.trans c a b u v) | inr (inl e) ↦ q (subst (λ x. A.Under c x) e u) | inr (inr v) ↦ p v ]
 
   pub at_most_both : (a b : A.Value) → AtMost A a b → AtMost A b a → a ≡ b
-  at_most_both a b p q = elim (L.one_of_lem a b) [ inl v ↦ absurd (q v) | inr (inl e) ↦ e | inr (inr v) ↦ absurd (p v) ]
+  at_most_both a b p q = elim (L.one_of a b) [ inl v ↦ absurd (q v) | inr (inl e) ↦ e | inr (inr v) ↦ absurd (p v) ]
 
   pub under_at_most : (a b : A.Value) → A.Under a b → AtMost A a b
   under_at_most a b u v = L.not_both a b u v
@@ -39,7 +39,7 @@ module _ {A : Algebra} (L : Lawful A) where
   -- what is at most a cost undercuts all that this undercuts
   pub at_most_under : (a b c : A.Value) → AtMost A a b → A.Under b c → A.Under a c
   at_most_under a b c p u =
-      elim (L.one_of_lem a c) [ inl v ↦ v | inr (inl e) ↦ absurd (p (subst (A.Under b) (sym e) u)) | inr (inr v) ↦ absurd (p (L.trans b c a u v)) ]
+      elim (L.one_of a c) [ inl v ↦ v | inr (inl e) ↦ absurd (p (subst (A.Under b) (sym e) u)) | inr (inr v) ↦ absurd (p (L.trans b c a u v)) ]
 
   pub at_most_joined : (a b c d : A.Value) → AtMost A a b → AtMost A c d → AtMost A (A.join a c) (A.join b d)
   at_most_joined a b c d p q = at_most_trans _ (A.join b c) _ (L.keeps a b c p) (subst₂ (λ x y. AtMost A x y) (L.comm c b) (L.comm d b) (L.keeps c d b q))

@@ -36,7 +36,7 @@ module _ {A : Algebra} (L : Lawful A) {C : Type 0} (value : C → A.Value) (n : 
   near_low : (h s t : ℕ) (o : Option A.Value) → h ≤ n → Calmed A card h → LowLeast A card h s t o → Near A n o
   near_low h s t o l calm low x e =
       let few = sound.small in
-      L.WithinMore (suc h) (suc n) x (omega arith) (omega arith) (low_near L card n sound h l calm s t x (subst (LowLeast A card h s t) e low))
+      L.within_more (suc h) (suc n) x (omega arith) (omega arith) (low_near L card n sound h l calm s t x (subst (LowLeast A card h s t) e low))
 
   -- the first stage
   pub first_none : (cells : List (Cell C)) → Each A value n cells (λ s t o. o ≡ card s t) → FirstTo A value n card cells 0
@@ -219,7 +219,7 @@ module _ {A : Algebra} (L : Lawful A) {C : Type 0} (value : C → A.Value) (n : 
       near : (s t : ℕ) → s < n → t < n → (s ≡ t → ⊥) → suc k ≤ suc (max s t) → Near A n (least_in A value n cells s t)
       near s t ls lt ne l x e =
           let few = sound.small in
-          L.WithinMore (n - 1) (suc n) x (omega arith) (omega arith)
+          L.within_more (n - 1) (suc n) x (omega arith) (omega arith)
           (least_is_near L n card sound (no_hidden_loop L n card sound calm) s t ne x (subst (Least A card s t) e (third_least cells (suc k) calm to s t ls lt ne l)))
 
   pub third_more : (entry exit : List (Cell C)) (k : ℕ) → k < n → Calmed A card n → ThirdTo A value n card entry (suc k) →

@@ -1,5 +1,5 @@
 -- Pricing a list of formats card by card: what one card more adds, and what is known at the end.
-use Rattle.std.proofs.Common.{◌≡◌, ℕ, zero, suc, ◌+◌, ◌-◌, ◌<◌, ◌≤◌, true, List, [], ◌∷◌, length, get_or, take, is_some, Some, None, Option, unwrap_or, sym, refl, ap, ◌∙◌, le_of_suc-le-suc, add-zero, add-one, arith, take_all, below_more}
+use Rattle.std.proofs.Common.{◌≡◌, ℕ, zero, suc, ◌+◌, ◌-◌, ◌<◌, ◌≤◌, true, List, [], ◌∷◌, length, get_or, take, is_some, Some, Option, unwrap_or, sym, refl, ap, ◌∙◌, le_of_suc-le-suc, add-one, arith, take_all, below_more}
 use Rattle.costs.specs.Algebra.{Algebra, Lawful, reach}
 use Rattle.walks.specs.Walk.{Walk, cost}
 use Rattle.walks.specs.Price.{card_at}

@@ -15,7 +15,7 @@ use Rattle.walks.proofs.Cut.{least_is_near}
 -- two costs are equal just where neither undercuts the other
 pub same_decided : {A : Algebra} → Lawful A → (a b : A.Value) (r s : Bool) → (r ≡ false → A.Under a b → ⊥) →
     (s ≡ true → A.Under b a) → (s ≡ false → A.Under b a → ⊥) → r ≡ false → Decides (not s) (a ≡ b)
-same_decided {A} L a b r false rn sy sn e = (λ _. go (L.one_of_lem a b), λ _. refl)
+same_decided {A} L a b r false rn sy sn e = (λ _. go (L.one_of a b), λ _. refl)
   where
     go : A.Under a b ⊎ ((a ≡ b) ⊎ A.Under b a) → a ≡ b
     go (inl u) = absurd (rn e u)
@@ -53,7 +53,7 @@ module _ {A : Algebra} (L : Lawful A) {C : Type 0} (value : C → A.Value) (n : 
         go (inl d) =
             let u : to_goal A value n cells goal v ≡ Some A.unit = ap (to_goal A value n cells goal) d ∙ to_goal_goal in
             let f : A.unit ≡ x = cc in
-            subst (A.Within (n - 1)) f (L.WithinMore 0 (n - 1) A.unit (omega arith) (omega (arith, ready.laid.sound.small)) L.unit_within)
+            subst (A.Within (n - 1)) f (L.within_more 0 (n - 1) A.unit (omega arith) (omega (arith, ready.laid.sound.small)) L.unit_within)
         go (inr ne) = least_is_near L n (cards_in A value n cells) ready.laid.sound ready.calm v goal ne x
             (subst (λ o. Least A (cards_in A value n cells) v goal o) e (to_goal_least v ne))
 

@@ -35,7 +35,7 @@ module _ {A : Algebra} (L : Lawful A) where
 
   -- what x does not undercut undercuts all that x undercuts
   under_from : (a x c : A.Value) → (A.Under x a → ⊥) → A.Under x c → A.Under a c
-  under_from a x c h u = go (L.one_of_lem a x)
+  under_from a x c h u = go (L.one_of a x)
     where
       go : A.Under a x ⊎ ((a ≡ x) ⊎ A.Under x a) → A.Under a c
       go (inl k) = L.trans a x c k u
@@ -121,7 +121,7 @@ module _ {A : Algebra} (L : Lawful A) (n : ℕ) (card : ℕ → ℕ → Option A
 
   -- outside the tree no card is tight, so the least cost undercuts every way
   least_under_way : (u : ℕ) (x : A.Value) → tree u ≡ false → d u ≡ Some x → (e : A.Value) → Way u e → A.Under x e
-  least_under_way u x f s e way = go (L.one_of_lem x e)
+  least_under_way u x f s e way = go (L.one_of x e)
     where
       go : A.Under x e ⊎ ((x ≡ e) ⊎ A.Under e x) → A.Under x e
       go (inl h) = h

@@ -21,7 +21,7 @@ use Rattle.walks.proofs.Restrict.{upto_runs, runs_upto, upto_calm}
 pub card_near : {A : Algebra} → Lawful A → (n : ℕ) (o : Option A.Value) (a : A.Value) → n ≤ most_formats → o ≡ Some a → A.admits a ≡ true → Near A n o
 card_near {A} L n o a few e admitted x f =
     let d : a ≡ x = cc in
-    subst (A.Within (suc n)) d (L.WithinMore 1 (suc n) a (omega arith) (omega arith) (L.admitted_within a admitted))
+    subst (A.Within (suc n)) d (L.within_more 1 (suc n) a (omega arith) (omega arith) (L.admitted_within a admitted))
 
 -- the table has the least costs over the cards up to h
 pub record Back (A : Algebra) {C : Type 0} (value : C → A.Value) (n : ℕ) (card : ℕ → ℕ → Option A.Value) (cells : List (Cell C)) (h : ℕ) : Type 0 where
@@ -53,7 +53,7 @@ module _ {A : Algebra} (L : Lawful A) {C : Type 0} (value : C → A.Value) (n : 
       let ne : v ≡ h → ⊥ = λ d. absurd (omega arith) in
       let small = back.sound.small in
       let inside = back.inside in
-      L.WithinMore (n - 1) (suc n) x (omega arith) (omega arith)
+      L.within_more (n - 1) (suc n) x (omega arith) (omega arith)
       (least_is_near L n (upto h card) back.sound back.settled.calm v h ne x (subst (Least A (upto h card) v h) e (back.settled.least v h (omega arith) inside ne)))
 
   -- a closed walk at h goes out of h by a card and then up to h, where the least cost is at most as much

@@ -21,7 +21,7 @@ pub enum Unpriced {
 
 // The cost of the walk through `formats`, card by card.
 pub fn price<R: Register>(register: &R, formats: &[Format]) -> Result<R::Cost, Unpriced>
-    ensures { Priced R.Cost.Cost.algebra (standing (meant R.Cost.Cost.value (holds register.now))) R.Cost.Cost.value formats.now result }
+    ensures { Priced R.Cost.Cost.algebra (standing (meant R.Cost.Cost.value (R.Register.holds register.now))) R.Cost.Cost.value formats.now result }
 {
     if formats.len() < 2 {
         return Err(Unpriced::Short);

@@ -17,7 +17,7 @@ use registers::{MOST_FORMATS, Register};
 
 // The cost of the register's card, if it leads from a format below `high` to one up to it.
 fn card_upto<R: Register>(register: &R, high: usize, s: usize, t: usize) -> Option<R::Cost>
-    ensures value { option_map R.Cost.Cost.value result ≡ upto high (standing (meant R.Cost.Cost.value (holds register.now))) s t }
+    ensures value { option_map R.Cost.Cost.value result ≡ upto high (standing (meant R.Cost.Cost.value (R.Register.holds register.now))) s t }
     ensures admitted { IfSome result (λ x. R.Cost.Cost.algebra.admits (R.Cost.Cost.value x) ≡ true) }
 {
     if s < high && t <= high {
@@ -32,7 +32,7 @@ fn load<R: Register>(register: &R, cells: &mut [Cell<R::Cost>], n: usize, high: 
     requires room { n * n ≤ length cells.old }
     requires few { (0 < n) × (n ≤ 64) }
     ensures beyond { Beyond (n * n) cells.old cells.new }
-    ensures loaded { (k : ℕ) → k < n * n → Fresh R.Cost.Cost.algebra R.Cost.Cost.value (upto high (standing (meant R.Cost.Cost.value (holds register.now))) (k / n) (k % n)) (slice_index_or cells.new k empty) }
+    ensures loaded { (k : ℕ) → k < n * n → Fresh R.Cost.Cost.algebra R.Cost.Cost.value (upto high (standing (meant R.Cost.Cost.value (R.Register.holds register.now))) (k / n) (k % n)) (slice_index_or cells.new k empty) }
 {
     for k in 0..n * n {
         let card = card_upto(register, high, k / n, k % n);
@@ -64,11 +64,11 @@ fn solve_upto<R: Register>(
     high: usize,
 ) -> Option<usize>
     requires room { n * n ≤ length cells.old }
-    requires size { n ≡ (holds register.now).size }
+    requires size { n ≡ (R.Register.holds register.now).size }
     requires few { (0 < n) × (n ≤ 64) }
     ensures beyond { Beyond (n * n) cells.old cells.new }
-    ensures sound { Sound R.Cost.Cost.algebra n (upto high (standing (meant R.Cost.Cost.value (holds register.now)))) }
-    ensures solved { Solved R.Cost.Cost.algebra R.Cost.Cost.value n (upto high (standing (meant R.Cost.Cost.value (holds register.now)))) cells.new result }
+    ensures sound { Sound R.Cost.Cost.algebra n (upto high (standing (meant R.Cost.Cost.value (R.Register.holds register.now)))) }
+    ensures solved { Solved R.Cost.Cost.algebra R.Cost.Cost.value n (upto high (standing (meant R.Cost.Cost.value (R.Register.holds register.now)))) cells.new result }
 {
     load(register, cells, n, high);
     settle(cells, n)
@@ -77,10 +77,10 @@ fn solve_upto<R: Register>(
 // Brings the register's cards to least costs in the table of cells, unless a closed walk undercuts the unit: then answers the
 // lowest format at which one through lower formats does.
 pub fn solve<R: Register>(register: &R, cells: &mut [Cell<R::Cost>]) -> Option<usize>
-    requires room { (holds register.now).size * (holds register.now).size ≤ length cells.old }
-    ensures beyond { Beyond ((holds register.now).size * (holds register.now).size) cells.old cells.new }
-    ensures sound { Sound R.Cost.Cost.algebra (holds register.now).size (standing (meant R.Cost.Cost.value (holds register.now))) }
-    ensures solved { Solved R.Cost.Cost.algebra R.Cost.Cost.value (holds register.now).size (standing (meant R.Cost.Cost.value (holds register.now))) cells.new result }
+    requires room { (R.Register.holds register.now).size * (R.Register.holds register.now).size ≤ length cells.old }
+    ensures beyond { Beyond ((R.Register.holds register.now).size * (R.Register.holds register.now).size) cells.old cells.new }
+    ensures sound { Sound R.Cost.Cost.algebra (R.Register.holds register.now).size (standing (meant R.Cost.Cost.value (R.Register.holds register.now))) }
+    ensures solved { Solved R.Cost.Cost.algebra R.Cost.Cost.value (R.Register.holds register.now).size (standing (meant R.Cost.Cost.value (R.Register.holds register.now))) cells.new result }
 {
     let n = register.size();
     solve_upto(register, cells, n, n)
@@ -92,8 +92,8 @@ fn way_out<R: Register>(register: &R, cells: &[Cell<R::Cost>], n: usize, h: usiz
     requires few { n ≤ 64 }
     requires inside { h < n }
     requires near { (v : ℕ) → v < h → Near R.Cost.Cost.algebra n (least_in R.Cost.Cost.algebra R.Cost.Cost.value n cells.now v h) }
-    requires some { (v : ℕ) × (v < h) × Turns R.Cost.Cost.algebra R.Cost.Cost.value n (standing (meant R.Cost.Cost.value (holds register.now))) cells.now h v }
-    ensures { (result < h) × Turns R.Cost.Cost.algebra R.Cost.Cost.value n (standing (meant R.Cost.Cost.value (holds register.now))) cells.now h result }
+    requires some { (v : ℕ) × (v < h) × Turns R.Cost.Cost.algebra R.Cost.Cost.value n (standing (meant R.Cost.Cost.value (R.Register.holds register.now))) cells.now h v }
+    ensures { (result < h) × Turns R.Cost.Cost.algebra R.Cost.Cost.value n (standing (meant R.Cost.Cost.value (R.Register.holds register.now))) cells.now h result }
 {
     let unit = R::Cost::unit();
     for v in 0..h {
@@ -117,13 +117,13 @@ pub fn write_loop<R: Register>(
     ticks: &mut [bool; MOST_FORMATS],
     chains: &mut [u8],
 )
-    requires room { (holds register.now).size * (holds register.now).size ≤ length cells.old }
-    requires found { Looked R.Cost.Cost.algebra (standing (meant R.Cost.Cost.value (holds register.now))) (holds register.now).size (Some h) }
+    requires room { (R.Register.holds register.now).size * (R.Register.holds register.now).size ≤ length cells.old }
+    requires found { Looked R.Cost.Cost.algebra (standing (meant R.Cost.Cost.value (R.Register.holds register.now))) (R.Register.holds register.now).size (Some h) }
     requires clear { Clear ticks.old }
     requires row { 66 ≤ length chains.old }
     ensures clear { Clear ticks.new }
-    ensures beyond { Beyond ((holds register.now).size * (holds register.now).size) cells.old cells.new }
-    ensures written { LoopWritten R.Cost.Cost.algebra (standing (meant R.Cost.Cost.value (holds register.now))) h chains.old chains.new }
+    ensures beyond { Beyond ((R.Register.holds register.now).size * (R.Register.holds register.now).size) cells.old cells.new }
+    ensures written { LoopWritten R.Cost.Cost.algebra (standing (meant R.Cost.Cost.value (R.Register.holds register.now))) h chains.old chains.new }
 {
     let n = register.size();
     let _ = solve_upto(register, cells, n, h);

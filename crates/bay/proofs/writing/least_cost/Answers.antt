@@ -4,8 +4,8 @@ use Rattle.std.proofs.lemmas.List.{get_or_read}
 use Rattle.walks.specs.Cells.{empty}
 use Rattle.bay.proofs.writing.least_cost.Goals as goal
 
-pub offset-bounds-table-from : goal.offset-bounds-table-from
-offset-bounds-table-from g c = omega (arith, mul-add-lt c.args.from c.args.n c.args.to c.args.n c.requires.inside.0 c.requires.inside.1)
+pub offset_bounds-table-from : goal.offset_bounds-table-from
+offset_bounds-table-from g c = omega (arith, mul-add-lt c.args.from c.args.n c.args.to c.args.n c.requires.inside.0 c.requires.inside.1)
 
 pub bounds-table-from : goal.bounds-table-from
 bounds-table-from g c = omega (arith, mul-add-lt c.args.from c.args.n c.args.to c.args.n c.requires.inside.0 c.requires.inside.1)

@@ -15,8 +15,8 @@ returns-in_default g c =
     (page (booked c.args.legs.now) c.args.costs.now c.args.chains.now) c.args.k c.args.leg c.requires.leg.1
     (c.requires.traced c.if-leg-n.false) c.requires.blank c.in_default.ensures
 
-pub offset-bounds-costs-k : goal.offset-bounds-costs-k
-offset-bounds-costs-k g c = let here : c.args.k < length c.args.costs.now = omega (arith, c.requires.room.entries) in search rules
+pub offset_bounds-costs-k : goal.offset_bounds-costs-k
+offset_bounds-costs-k g c = let here : c.args.k < length c.args.costs.now = omega (arith, c.requires.room.entries) in search rules
 
 pub bounds-costs-k : goal.bounds-costs-k
 bounds-costs-k g c = omega (arith, c.requires.room.entries)

@@ -10,8 +10,8 @@ better-requires g c = record {
   second = λ x e. (c.requires.ready.near c.args.t c.requires.column.0 c.requires.column.1).1 x (read_is g.C.Cost.algebra g.C.Cost.value c.args.n c.args.pivot c.args.t c.args.cells.now c.cell_at-second.result _ c.cell_at-second.ensures refl ∙ e);
 }
 
-pub offset-bounds-cells-s : goal.offset-bounds-cells-s
-offset-bounds-cells-s g c =
+pub offset_bounds-cells-s : goal.offset_bounds-cells-s
+offset_bounds-cells-s g c =
     let here : c.args.s * c.args.n + c.args.t < length c.args.cells.now = omega (arith, place_lt _ _ _ c.requires.row.0 c.requires.column.0) in
     search rules
 

@@ -5,14 +5,14 @@ use Rattle.walks.proofs.rows.follow.Goals as goal
 pub loop-i-init : goal.loop-i-init
 loop-i-init c = reading_none c.args.next.now c.args.goal c.args.most c.args.from c.args.sheet.now c.args.at c.requires.leads
 
-pub overflow-cast-sheet : goal.overflow-cast-sheet
-overflow-cast-sheet c = omega (arith, reading_inside _ _ _ _ _ _ _ _ _ c.loop-i.invariant)
+pub overflow_cast-sheet : goal.overflow_cast-sheet
+overflow_cast-sheet c = omega (arith, reading_inside _ _ _ _ _ _ _ _ _ c.loop-i.invariant)
 
 pub returns-then-here-goal : goal.returns-then-here-goal
 returns-then-here-goal c = reading_all _ _ _ _ _ _ _ _ _ c.loop-i.invariant c.requires.room c.if-here-goal.true
 
-pub offset-bounds-next-here : goal.offset-bounds-next-here
-offset-bounds-next-here c = omega (arith, reading_inside _ _ _ _ _ _ _ _ _ c.loop-i.invariant)
+pub offset_bounds-next-here : goal.offset_bounds-next-here
+offset_bounds-next-here c = omega (arith, reading_inside _ _ _ _ _ _ _ _ _ c.loop-i.invariant)
 
 pub bounds-next-here : goal.bounds-next-here
 bounds-next-here c = reading_inside _ _ _ _ _ _ _ _ _ c.loop-i.invariant

@@ -6,6 +6,6 @@ use Rattle.walks.proofs.search.load.Given as goal
 
 abbrev pub invariant-loop-k : goal.invariant-loop-k
 invariant-loop-k g l =
-    let kind = g.Cost.Cost in
+    let kind = g.R.Cost.Cost in
     Beyond (l.n * l.n) l.initial.cells l.cells ×
     LoadedTo kind.algebra kind.value l.n (upto l.high (standing (meant kind.value (g.R.Register.holds l.register)))) l.k l.cells

@@ -8,8 +8,8 @@ use Rattle.walks.proofs.search.solve.Goals as goal
 
 pub returns : goal.returns
 returns g c =
-    let A = g.Cost.Cost.algebra in
-    let value = g.Cost.Cost.value in
+    let A = g.R.Cost.Cost.algebra in
+    let value = g.R.Cost.Cost.value in
     let m = meant value (g.R.Register.holds c.args.register.now) in
     let card = standing m in
     let all = upto_all m.size card (standing_inside m) in

@@ -8,8 +8,8 @@ use Rattle.walks.proofs.search.solve_upto.Goals as goal
 
 pub settle-requires : goal.settle-requires
 settle-requires g c =
-    let A = g.Cost.Cost.algebra in
-    let value = g.Cost.Cost.value in
+    let A = g.R.Cost.Cost.algebra in
+    let value = g.R.Cost.Cost.value in
     let n = c.args.n in
     let m = meant value (g.R.Register.holds c.args.register.now) in
     let card = upto c.args.high (standing m) in
@@ -22,8 +22,8 @@ settle-requires g c =
 
 pub returns : goal.returns
 returns g c =
-    let A = g.Cost.Cost.algebra in
-    let value = g.Cost.Cost.value in
+    let A = g.R.Cost.Cost.algebra in
+    let value = g.R.Cost.Cost.value in
     let n = c.args.n in
     let m = meant value (g.R.Register.holds c.args.register.now) in
     let card = upto c.args.high (standing m) in

@@ -14,10 +14,10 @@ loop-v-init g c = λ v l. absurd (omega arith)
 
 pub returns-then-undercuts : goal.returns-then-undercuts
 returns-then-undercuts g c =
-    let L = g.met.Cost.Cost.lawful in
-    let read = λ (x : Cell g.R.Cost.Denot). option_map g.Cost.Cost.value x.least in
+    let L = g.met.R.Cost.Cost.lawful in
+    let read = λ (x : Cell g.row.R-Cost.Denot). option_map g.R.Cost.Cost.value x.least in
     let one = sym c.in-Some.ensures.value in
-    let two = sym (ap read c.cell_at.ensures) ∙ ap (option_map g.Cost.Cost.value) c.in-Some-least.is in
+    let two = sym (ap read c.cell_at.ensures) ∙ ap (option_map g.R.Cost.Cost.value) c.in-Some-least.is in
     let near = card_near L c.args.n _ _ c.requires.few one c.in-Some.ensures.admitted in
     let small : 2 * (c.args.n + 1) ≤ reach = omega (arith, c.requires.few) in (
       c.loop-v-test.true,
@@ -26,9 +26,9 @@ returns-then-undercuts g c =
 
 pub loop-v-preserved : goal.loop-v-preserved
 loop-v-preserved g c =
-    let L = g.met.Cost.Cost.lawful in
-    let read = λ (x : Cell g.R.Cost.Denot). option_map g.Cost.Cost.value x.least in
-    let means = option_map g.Cost.Cost.value in
+    let L = g.met.R.Cost.Cost.lawful in
+    let read = λ (x : Cell g.row.R-Cost.Denot). option_map g.R.Cost.Cost.value x.least in
+    let means = option_map g.R.Cost.Cost.value in
     below_more _ _ c.loop-v.invariant (elim c.match-card.branch [
       | in-Some+in-Some-least+else-undercuts w ↦
           let one = sym w.in-Some.ensures.value in

@@ -9,22 +9,22 @@ use Rattle.walks.proofs.search.write_loop.Goals as goal
 
 pub trace-requires : goal.trace-requires
 trace-requires g c =
-    let back = solved_back g.met.Cost.Cost.lawful g.Cost.Cost.value (g.R.Register.holds c.args.register.now) _ _ _ _
+    let back = solved_back g.met.R.Cost.Cost.lawful g.R.Cost.Cost.value (g.R.Register.holds c.args.register.now) _ _ _ _
     c.size-n.ensures.value c.size-n.ensures.bounds.1 c.requires.found c.solve_upto.ensures.sound c.solve_upto.ensures.solved in
     record {
       laid = back.settled.laid;
       few = back.few;
       inside = back.inside;
-      calm = back_calm g.met.Cost.Cost.lawful _ _ _ _ _ back;
-      least = back_least g.met.Cost.Cost.lawful _ _ _ _ _ back;
+      calm = back_calm g.met.R.Cost.Cost.lawful _ _ _ _ _ back;
+      least = back_least g.met.R.Cost.Cost.lawful _ _ _ _ _ back;
       clear = c.requires.clear;
     }
 
 pub way_out-from-requires : goal.way_out-from-requires
 way_out-from-requires g c =
-    let L = g.met.Cost.Cost.lawful in
-    let m = meant g.Cost.Cost.value (g.R.Register.holds c.args.register.now) in
-    let back = solved_back g.met.Cost.Cost.lawful g.Cost.Cost.value (g.R.Register.holds c.args.register.now) _ _ _ _
+    let L = g.met.R.Cost.Cost.lawful in
+    let m = meant g.R.Cost.Cost.value (g.R.Register.holds c.args.register.now) in
+    let back = solved_back g.met.R.Cost.Cost.lawful g.R.Cost.Cost.value (g.R.Register.holds c.args.register.now) _ _ _ _
     c.size-n.ensures.value c.size-n.ensures.bounds.1 c.requires.found c.solve_upto.ensures.sound c.solve_upto.ensures.solved in
     record {
       room = back.settled.laid.room;
@@ -36,16 +36,16 @@ way_out-from-requires g c =
 
 pub write_round-requires : goal.write_round-requires
 write_round-requires g c =
-    let back = solved_back g.met.Cost.Cost.lawful g.Cost.Cost.value (g.R.Register.holds c.args.register.now) _ _ _ _
+    let back = solved_back g.met.R.Cost.Cost.lawful g.R.Cost.Cost.value (g.R.Register.holds c.args.register.now) _ _ _ _
     c.size-n.ensures.value c.size-n.ensures.bounds.1 c.requires.found c.solve_upto.ensures.sound c.solve_upto.ensures.solved in
-    let loop = turns_loop g.met.Cost.Cost.lawful _ _ _ _ _ back c.trace.new.next _ c.way_out-from.ensures c.trace.ensures.traced in
+    let loop = turns_loop g.met.R.Cost.Cost.lawful _ _ _ _ _ back c.trace.new.next _ c.way_out-from.ensures c.trace.ensures.traced in
     record { room = c.requires.row; leads = loop.4; inside = omega (arith, back.inside, back.few) }
 
 pub returns : goal.returns
 returns g c =
-    let back = solved_back g.met.Cost.Cost.lawful g.Cost.Cost.value (g.R.Register.holds c.args.register.now) _ _ _ _
+    let back = solved_back g.met.R.Cost.Cost.lawful g.R.Cost.Cost.value (g.R.Register.holds c.args.register.now) _ _ _ _
     c.size-n.ensures.value c.size-n.ensures.bounds.1 c.requires.found c.solve_upto.ensures.sound c.solve_upto.ensures.solved in
-    let loop = turns_loop g.met.Cost.Cost.lawful _ _ _ _ _ back c.trace.new.next _ c.way_out-from.ensures c.trace.ensures.traced in
+    let loop = turns_loop g.met.R.Cost.Cost.lawful _ _ _ _ _ back c.trace.new.next _ c.way_out-from.ensures c.trace.ensures.traced in
     let from = c.way_out-from.result in
     record {
       clear = c.trace.ensures.clear;

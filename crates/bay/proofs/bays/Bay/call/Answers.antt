@@ -11,7 +11,7 @@ use Rattle.bay.proofs.bays.Bay.call.Goals as goal
 pub returns-in-Ok-book : goal.returns-in-Ok-book
 returns-in-Ok-book g c =
     let told = c.in-Ok-book.ensures in
-    call_given g.Cost.Cost.algebra g.Cost.Cost.value _ _ _ _ _ (Book c.in-Book.from c.in-Book.to) _ c.in-Book.is (record {
+    call_given g.R.Cost.Cost.algebra g.R.Cost.Cost.value _ _ _ _ _ (Book c.in-Book.from c.in-Book.to) _ c.in-Book.is (record {
       right = inl (ap Booked (told.number ∙ sym (length-map (booked c.args.self.now.legs) ends)), sym told.answer);
       plain_is = told.after;
       legs = told.notes;
@@ -23,7 +23,7 @@ returns-in-Ok-book g c =
 pub returns-in-Err-book : goal.returns-in-Err-book
 returns-in-Err-book g c =
     let told = c.in-Err-book.ensures in
-    call_given g.Cost.Cost.algebra g.Cost.Cost.value _ _ _ _ _ (Book c.in-Book.from c.in-Book.to) _ c.in-Book.is (record {
+    call_given g.R.Cost.Cost.algebra g.R.Cost.Cost.value _ _ _ _ _ (Book c.in-Book.from c.in-Book.to) _ c.in-Book.is (record {
       right = inr (c.in-Err-book.fault, refl, sym told.answer);
       plain_is = told.after;
       legs = told.notes;
@@ -35,5 +35,5 @@ returns-in-Err-book g c =
 pub returns-in_ok-told : goal.returns-in_ok-told
 returns-in_ok-told g c =
     let told = c.route_answer.ensures in
-    call_given g.Cost.Cost.algebra g.Cost.Cost.value _ _ _ _ _ Route _ c.in-Route.is
+    call_given g.R.Cost.Cost.algebra g.R.Cost.Cost.value _ _ _ _ _ Route _ c.in-Route.is
     (record { right = told.right; plain_is = told.same; legs = told.legs; table = told.table; costs = told.costs; chains = told.chains })

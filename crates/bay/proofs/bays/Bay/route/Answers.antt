@@ -28,7 +28,7 @@ write_routes-requires g c =
     let legs = booked c.args.self.now.legs in
     let enough = room_enough (length (map ends (booked c.args.self.now.legs))) (g.R.Register.holds c.args.self.now.register).size (length c.args.table.now) (length c.args.costs.now) (length c.args.chains.now) c.in_ok-judge_route.ensures in
     let size = c.size-n.ensures.value in
-    let value = g.Cost.Cost.value in
+    let value = g.R.Cost.Cost.value in
     let settled = c.in-None.ensures.solved in
     record {
       laid = settled_laid value _ _ size _ _ settled;
@@ -47,7 +47,7 @@ returns-in-Some g c =
     let enough = room_enough (length (map ends (booked c.args.self.now.legs))) (g.R.Register.holds c.args.self.now.register).size (length c.args.table.now) (length c.args.costs.now) (length c.args.chains.now) c.in_ok-judge_route.ensures in
     let told = c.in-Some.ensures in
     let few : n ≤ 64 = omega (arith, c.size-n.ensures.value, c.size-n.ensures.bounds.1) in
-    let row = loop_in_row g.met.Cost.Cost.lawful (standing (meant g.Cost.Cost.value (g.R.Register.holds c.args.self.now.register))) n told.sound few c.in-Some.h
+    let row = loop_in_row g.met.R.Cost.Cost.lawful (standing (meant g.R.Cost.Cost.value (g.R.Register.holds c.args.self.now.register))) n told.sound few c.in-Some.h
     c.args.chains.now c.write_loop.new.chains (omega (arith, enough.rows, enough.some)) c.write_loop.ensures.written in
     let opened-legs = c.open_all.ensures in
     record {
@@ -60,7 +60,7 @@ returns-in-Some g c =
         legs = opened-legs;
         table = table_beyond (n * n) c.args.table.now c.solve.new.cells c.write_loop.new.cells told.beyond c.write_loop.ensures.beyond;
       }));
-      same = λ i. record { register = meant g.Cost.Cost.value (g.R.Register.holds c.args.self.now.register); legs = (ap (map ends) opened-legs ∙ ends_opened legs) i };
+      same = λ i. record { register = meant g.R.Cost.Cost.value (g.R.Register.holds c.args.self.now.register); legs = (ap (map ends) opened-legs ∙ ends_opened legs) i };
     }
 
 pub returns-in-None : goal.returns-in-None
@@ -68,8 +68,8 @@ returns-in-None g c =
     let legs = booked c.args.self.now.legs in
     let after = booked c.write_routes.new.legs in
     let n = (g.R.Register.holds c.args.self.now.register).size in
-    let A = g.Cost.Cost.algebra in
-    let value = g.Cost.Cost.value in
+    let A = g.R.Cost.Cost.algebra in
+    let value = g.R.Cost.Cost.value in
     let told = c.in-None.ensures in
     let wrote = c.write_routes.ensures in
     let count = sym (length-map legs ends) in

@@ -11,13 +11,13 @@ use Rattle.bay.proofs.bays.Bay.route_answer.Goals as goal
 pub fill-requires : goal.fill-requires
 fill-requires g c =
     let legs = booked c.args.self.now.legs in
-    let done = was_granted g.Cost.Cost.algebra g.Cost.Cost.value (plain g.Cost.Cost.algebra g.Cost.Cost.value g.R.Register.holds c.args.self.now)
+    let done = was_granted g.R.Cost.Cost.algebra g.R.Cost.Cost.value (plain g.R.Cost.Cost.algebra g.R.Cost.Cost.value g.R.Register.holds c.args.self.now)
     (record { legs = booked c.args.self.now.legs; table = c.args.table.now; costs = c.args.costs.now; chains = c.args.chains.now })
     (record { legs = booked c.route.new.self.legs; table = c.route.new.table; costs = c.route.new.costs; chains = c.route.new.chains }) c.in-Ok.legs c.in-Ok.ensures.answer in
-    let enough = desk_enough g.Cost.Cost.algebra g.Cost.Cost.value (plain g.Cost.Cost.algebra g.Cost.Cost.value g.R.Register.holds c.args.self.now)
+    let enough = desk_enough g.R.Cost.Cost.algebra g.R.Cost.Cost.value (plain g.R.Cost.Cost.algebra g.R.Cost.Cost.value g.R.Register.holds c.args.self.now)
     (record { legs = booked c.args.self.now.legs; table = c.args.table.now; costs = c.args.costs.now; chains = c.args.chains.now })
     (record { legs = booked c.route.new.self.legs; table = c.route.new.table; costs = c.route.new.costs; chains = c.route.new.chains }) done.no_cause in
-    let is = ok_same g.Cost.Cost.algebra g.Cost.Cost.value (plain g.Cost.Cost.algebra g.Cost.Cost.value g.R.Register.holds c.args.self.now)
+    let is = ok_same g.R.Cost.Cost.algebra g.R.Cost.Cost.value (plain g.R.Cost.Cost.algebra g.R.Cost.Cost.value g.R.Register.holds c.args.self.now)
     (record { legs = booked c.args.self.now.legs; table = c.args.table.now; costs = c.args.costs.now; chains = c.args.chains.now })
     (record { legs = booked c.route.new.self.legs; table = c.route.new.table; costs = c.route.new.costs; chains = c.route.new.chains }) c.in-Ok.legs _ done.answers in
     record {
@@ -29,10 +29,10 @@ fill-requires g c =
 
 pub into_row-requires : goal.into_row-requires
 into_row-requires g c =
-    let done = was_loop g.Cost.Cost.algebra g.Cost.Cost.value (plain g.Cost.Cost.algebra g.Cost.Cost.value g.R.Register.holds c.args.self.now)
+    let done = was_loop g.R.Cost.Cost.algebra g.R.Cost.Cost.value (plain g.R.Cost.Cost.algebra g.R.Cost.Cost.value g.R.Register.holds c.args.self.now)
     (record { legs = booked c.args.self.now.legs; table = c.args.table.now; costs = c.args.costs.now; chains = c.args.chains.now })
     (record { legs = booked c.route.new.self.legs; table = c.route.new.table; costs = c.route.new.costs; chains = c.route.new.chains }) c.in-Err.fault c.in-Loop.is c.in-Err.ensures.answer in
-    let enough = desk_enough g.Cost.Cost.algebra g.Cost.Cost.value (plain g.Cost.Cost.algebra g.Cost.Cost.value g.R.Register.holds c.args.self.now)
+    let enough = desk_enough g.R.Cost.Cost.algebra g.R.Cost.Cost.value (plain g.R.Cost.Cost.algebra g.R.Cost.Cost.value g.R.Register.holds c.args.self.now)
     (record { legs = booked c.args.self.now.legs; table = c.args.table.now; costs = c.args.costs.now; chains = c.args.chains.now })
     (record { legs = booked c.route.new.self.legs; table = c.route.new.table; costs = c.route.new.costs; chains = c.route.new.chains }) done.no_cause in
     record { reserved = c.requires; row = omega (arith, enough.rows, enough.some, done.chains.long) }
@@ -41,10 +41,10 @@ pub returns-in-Ok : goal.returns-in-Ok
 returns-in-Ok g c =
     let legs = booked c.args.self.now.legs in
     let route = c.in-Ok.ensures in
-    let done = was_granted g.Cost.Cost.algebra g.Cost.Cost.value (plain g.Cost.Cost.algebra g.Cost.Cost.value g.R.Register.holds c.args.self.now)
+    let done = was_granted g.R.Cost.Cost.algebra g.R.Cost.Cost.value (plain g.R.Cost.Cost.algebra g.R.Cost.Cost.value g.R.Register.holds c.args.self.now)
     (record { legs = booked c.args.self.now.legs; table = c.args.table.now; costs = c.args.costs.now; chains = c.args.chains.now })
     (record { legs = booked c.route.new.self.legs; table = c.route.new.table; costs = c.route.new.costs; chains = c.route.new.chains }) c.in-Ok.legs route.answer in
-    let told = told_granted g.Cost.Cost.algebra g.Cost.Cost.value (plain g.Cost.Cost.algebra g.Cost.Cost.value g.R.Register.holds c.args.self.now)
+    let told = told_granted g.R.Cost.Cost.algebra g.R.Cost.Cost.value (plain g.R.Cost.Cost.algebra g.R.Cost.Cost.value g.R.Register.holds c.args.self.now)
     (record { legs = booked c.args.self.now.legs; table = c.args.table.now; costs = c.args.costs.now; chains = c.args.chains.now })
     (record { legs = booked c.route.new.self.legs; table = c.route.new.table; costs = c.route.new.costs; chains = c.route.new.chains }) c.in-Ok.legs (sym (length-map legs ends)) done c.fill.new.self c.fill.ensures.costs c.fill.ensures.chains in
     record { right = told.right; same = route.same; legs = told.legs; table = done.table; costs = told.costs; chains = told.chains }
@@ -52,10 +52,10 @@ returns-in-Ok g c =
 pub returns-in-Loop : goal.returns-in-Loop
 returns-in-Loop g c =
     let route = c.in-Err.ensures in
-    let done = was_loop g.Cost.Cost.algebra g.Cost.Cost.value (plain g.Cost.Cost.algebra g.Cost.Cost.value g.R.Register.holds c.args.self.now)
+    let done = was_loop g.R.Cost.Cost.algebra g.R.Cost.Cost.value (plain g.R.Cost.Cost.algebra g.R.Cost.Cost.value g.R.Register.holds c.args.self.now)
     (record { legs = booked c.args.self.now.legs; table = c.args.table.now; costs = c.args.costs.now; chains = c.args.chains.now })
     (record { legs = booked c.route.new.self.legs; table = c.route.new.table; costs = c.route.new.costs; chains = c.route.new.chains }) c.in-Err.fault c.in-Loop.is route.answer in
-    let told = told_loop g.Cost.Cost.algebra g.Cost.Cost.value (plain g.Cost.Cost.algebra g.Cost.Cost.value g.R.Register.holds c.args.self.now)
+    let told = told_loop g.R.Cost.Cost.algebra g.R.Cost.Cost.value (plain g.R.Cost.Cost.algebra g.R.Cost.Cost.value g.R.Register.holds c.args.self.now)
     (record { legs = booked c.args.self.now.legs; table = c.args.table.now; costs = c.args.costs.now; chains = c.args.chains.now })
     (record { legs = booked c.route.new.self.legs; table = c.route.new.table; costs = c.route.new.costs; chains = c.route.new.chains }) c.into_row.result _ done c.into_row.ensures in
     record { right = told.right; same = route.same; legs = told.legs; table = done.table; costs = told.costs; chains = told.chains }
@@ -63,16 +63,16 @@ returns-in-Loop g c =
 pub returns-in_default : goal.returns-in_default
 returns-in_default g c =
     let route = c.in-Err.ensures in
-    let told = told_turned g.Cost.Cost.algebra g.Cost.Cost.value (plain g.Cost.Cost.algebra g.Cost.Cost.value g.R.Register.holds c.args.self.now)
+    let told = told_turned g.R.Cost.Cost.algebra g.R.Cost.Cost.value (plain g.R.Cost.Cost.algebra g.R.Cost.Cost.value g.R.Register.holds c.args.self.now)
     (record { legs = booked c.args.self.now.legs; table = c.args.table.now; costs = c.args.costs.now; chains = c.args.chains.now })
-    (record { legs = booked c.route.new.self.legs; table = c.route.new.table; costs = c.route.new.costs; chains = c.route.new.chains }) c.in-Err.fault (was_turned g.Cost.Cost.algebra g.Cost.Cost.value (plain g.Cost.Cost.algebra g.Cost.Cost.value g.R.Register.holds c.args.self.now)
+    (record { legs = booked c.route.new.self.legs; table = c.route.new.table; costs = c.route.new.costs; chains = c.route.new.chains }) c.in-Err.fault (was_turned g.R.Cost.Cost.algebra g.R.Cost.Cost.value (plain g.R.Cost.Cost.algebra g.R.Cost.Cost.value g.R.Register.holds c.args.self.now)
     (record { legs = booked c.args.self.now.legs; table = c.args.table.now; costs = c.args.costs.now; chains = c.args.chains.now })
     (record { legs = booked c.route.new.self.legs; table = c.route.new.table; costs = c.route.new.costs; chains = c.route.new.chains }) c.in-Err.fault c.in_default.not-Loop route.answer) in
     record {
       right = told.right;
       same = route.same;
       legs = told.legs;
-      table = told_table g.Cost.Cost.algebra g.Cost.Cost.value (plain g.Cost.Cost.algebra g.Cost.Cost.value g.R.Register.holds c.args.self.now)
+      table = told_table g.R.Cost.Cost.algebra g.R.Cost.Cost.value (plain g.R.Cost.Cost.algebra g.R.Cost.Cost.value g.R.Register.holds c.args.self.now)
           (record { legs = booked c.args.self.now.legs; table = c.args.table.now; costs = c.args.costs.now; chains = c.args.chains.now })
           (record { legs = booked c.route.new.self.legs; table = c.route.new.table; costs = c.route.new.costs; chains = c.route.new.chains }) _ route.answer;
       costs = told.costs;

@@ -11,7 +11,7 @@ loop-call-init g c =
       made.1.0,
       made.1.1,
       omega arith,
-      run_begins g.Cost.Cost.algebra g.Cost.Cost.value (plain g.Cost.Cost.algebra g.Cost.Cost.value g.R.Register.holds c.args.self.now) (record { legs = booked c.args.self.now.legs; table = c.args.table.now; costs = c.args.costs.now; chains = c.args.chains.now }) (vec_items c.in-Ok.answers) made.0,
+      run_begins g.R.Cost.Cost.algebra g.R.Cost.Cost.value (plain g.R.Cost.Cost.algebra g.R.Cost.Cost.value g.R.Register.holds c.args.self.now) (record { legs = booked c.args.self.now.legs; table = c.args.table.now; costs = c.args.costs.now; chains = c.args.chains.now }) (vec_items c.in-Ok.answers) made.0,
     )
 
 pub loop-call-preserved : goal.loop-call-preserved
@@ -21,12 +21,12 @@ loop-call-preserved g c =
       omega (arith, pushed.len, inv.0),
       omega (arith, pushed.capacity, inv.1),
       omega arith,
-      run_turn g.Cost.Cost.algebra g.Cost.Cost.value (plain g.Cost.Cost.algebra g.Cost.Cost.value g.R.Register.holds c.args.self.now) (plain g.Cost.Cost.algebra g.Cost.Cost.value g.R.Register.holds c.loop-call.self) (plain g.Cost.Cost.algebra g.Cost.Cost.value g.R.Register.holds c.call.new.self)
+      run_turn g.R.Cost.Cost.algebra g.R.Cost.Cost.value (plain g.R.Cost.Cost.algebra g.R.Cost.Cost.value g.R.Register.holds c.args.self.now) (plain g.R.Cost.Cost.algebra g.R.Cost.Cost.value g.R.Register.holds c.loop-call.self) (plain g.R.Cost.Cost.algebra g.R.Cost.Cost.value g.R.Register.holds c.call.new.self)
           (record { legs = booked c.args.self.now.legs; table = c.args.table.now; costs = c.args.costs.now; chains = c.args.chains.now }) (record { legs = booked c.loop-call.self.legs; table = c.loop-call.table; costs = c.loop-call.costs; chains = c.loop-call.chains }) (record { legs = booked c.call.new.self.legs; table = c.call.new.table; costs = c.call.new.costs; chains = c.call.new.chains }) c.args.calls.now c.loop-call.call-index (vec_items c.loop-call.answers) (vec_items c.push_reserved.new.self) c.call-item.result c.in-Ok-call.answer
           c.loop-call-test.true c.call-item.is pushed.items c.loop-call.auto.costs c.loop-call.auto.chains inv.3 c.in-Ok-call.ensures,
     )
 
 pub returns : goal.returns
 returns g c =
-    run_ends g.Cost.Cost.algebra g.Cost.Cost.value (plain g.Cost.Cost.algebra g.Cost.Cost.value g.R.Register.holds c.args.self.now) (plain g.Cost.Cost.algebra g.Cost.Cost.value g.R.Register.holds c.loop-call.self) (record { legs = booked c.args.self.now.legs; table = c.args.table.now; costs = c.args.costs.now; chains = c.args.chains.now }) (record { legs = booked c.loop-call.self.legs; table = c.loop-call.table; costs = c.loop-call.costs; chains = c.loop-call.chains }) c.args.calls.now c.loop-call.call-index (vec_items c.loop-call.answers)
+    run_ends g.R.Cost.Cost.algebra g.R.Cost.Cost.value (plain g.R.Cost.Cost.algebra g.R.Cost.Cost.value g.R.Register.holds c.args.self.now) (plain g.R.Cost.Cost.algebra g.R.Cost.Cost.value g.R.Register.holds c.loop-call.self) (record { legs = booked c.args.self.now.legs; table = c.args.table.now; costs = c.args.costs.now; chains = c.args.chains.now }) (record { legs = booked c.loop-call.self.legs; table = c.loop-call.table; costs = c.loop-call.costs; chains = c.loop-call.chains }) c.args.calls.now c.loop-call.call-index (vec_items c.loop-call.answers)
     c.loop-call-test.false c.loop-call.invariant.3

@@ -7,8 +7,8 @@ use Rattle.bay.proofs.bays.Bay.run.Given as goal
 abbrev pub invariant-loop-call : goal.invariant-loop-call
 invariant-loop-call g l =
     (vec_len l.answers ≡ l.call-index) × (length l.calls ≤ vec_capacity l.answers) × (l.call-index ≤ length l.calls) ×
-    RunDone g.Cost.Cost.algebra g.Cost.Cost.value
-    (plain g.Cost.Cost.algebra g.Cost.Cost.value g.R.Register.holds l.initial.self) (plain g.Cost.Cost.algebra g.Cost.Cost.value g.R.Register.holds l.self)
+    RunDone g.R.Cost.Cost.algebra g.R.Cost.Cost.value
+    (plain g.R.Cost.Cost.algebra g.R.Cost.Cost.value g.R.Register.holds l.initial.self) (plain g.R.Cost.Cost.algebra g.R.Cost.Cost.value g.R.Register.holds l.self)
     (record { legs = booked l.initial.self.legs; table = l.initial.table; costs = l.initial.costs; chains = l.initial.chains })
     (record { legs = booked l.self.legs; table = l.table; costs = l.costs; chains = l.chains })
     (take l.call-index l.calls) (vec_items l.answers)

@@ -5,5 +5,5 @@ use Rattle.bay.proofs.bays.Bay.show.Goals as goal
 
 pub returns : goal.returns
 returns g c =
-    shown (meant g.Cost.Cost.value (g.R.Register.holds c.args.self.now.register)) (booked c.args.self.now.legs) c.args.number c.get.result c.ok_or.result
+    shown (meant g.R.Cost.Cost.value (g.R.Register.holds c.args.self.now.register)) (booked c.args.self.now.legs) c.args.number c.get.result c.ok_or.result
     c.get.ensures c.ok_or.ensures.value

@@ -10,8 +10,8 @@ pub bounds-self-place : goal.bounds-self-place
 bounds-self-place g c =
     pair_below g.C.Cost.value (admitted_by g.C.Cost.algebra g.C.Cost.value) c.args.self.now.n c.args.self.now.places.now c.args.from c.args.to _ c.nearest_size.ensures c.in_ok-judge_ends.ensures c.if-not-matrix_fits.ensures
 
-pub offset-bounds-self-place : goal.offset-bounds-self-place
-offset-bounds-self-place g c =
+pub offset_bounds-self-place : goal.offset_bounds-self-place
+offset_bounds-self-place g c =
     let below = pair_below g.C.Cost.value (admitted_by g.C.Cost.algebra g.C.Cost.value) c.args.self.now.n c.args.self.now.places.now c.args.from c.args.to _ c.nearest_size.ensures c.in_ok-judge_ends.ensures c.if-not-matrix_fits.ensures in
     search rules
 

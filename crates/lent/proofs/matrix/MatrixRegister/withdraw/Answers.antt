@@ -10,8 +10,8 @@ pub bounds-self-cleared : goal.bounds-self-cleared
 bounds-self-cleared g c =
     pair_below g.C.Cost.value (admitted_by g.C.Cost.algebra g.C.Cost.value) c.args.self.now.n c.args.self.now.places.now c.args.from c.args.to _ c.nearest_size.ensures c.in_ok-judge_ends.ensures c.if-not-matrix_fits.ensures
 
-pub offset-bounds-self-cleared : goal.offset-bounds-self-cleared
-offset-bounds-self-cleared g c =
+pub offset_bounds-self-cleared : goal.offset_bounds-self-cleared
+offset_bounds-self-cleared g c =
     let below = pair_below g.C.Cost.value (admitted_by g.C.Cost.algebra g.C.Cost.value) c.args.self.now.n c.args.self.now.places.now c.args.from c.args.to _ c.nearest_size.ensures c.in_ok-judge_ends.ensures c.if-not-matrix_fits.ensures in
     search rules
 
