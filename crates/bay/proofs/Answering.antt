@@ -1,5 +1,5 @@
 -- From what route leaves in the legs and the sheets to the answer that is given for it as a value.
-use Rattle.std.proofs.Common.{◌≡◌, ℕ, zero, suc, ◌+◌, ◌-◌, ◌*◌, ◌<◌, ◌≤◌, Bool, true, false, cond, eqb, ltb, ◌⊎◌, List, [], ◌∷◌, ◌++◌, map, length, get_or, take, drop, Some, None, Ok, Err, vec_items, Option, Result, Vec, sym, refl, ap, ◌∙◌, subst, subst₂, inl, inr, le_of_suc-le-suc, add-zero, arith, length-drop, take-append-drop, length-take, length-take-le, get_or-drop, get_or-take}
+use Rattle.std.proofs.Common.{◌≡◌, ℕ, zero, suc, ◌+◌, ◌-◌, ◌*◌, ◌<◌, ◌≤◌, Bool, true, false, cond, eqb, ltb, ◌⊎◌, List, [], ◌∷◌, ◌++◌, length, get_or, take, drop, Some, None, Ok, Err, vec_items, Option, Result, Vec, sym, refl, ap, ◌∙◌, subst, subst₂, inl, inr, le_of_suc-le-suc, add-zero, arith, length-drop, take-append-drop, length-take, length-take-le, get_or-drop, get_or-take}
 use Rattle.std.proofs.lemmas.List.{same_lists}
 use Rattle.costs.specs.Algebra.{Algebra}
 use Rattle.registers.specs.Fault.{code, first_cause, register_code}
@@ -8,8 +8,8 @@ use Rattle.registers.specs.declared.fault.Code.{Code}
 use Rattle.registers.specs.declared.fault.Layer.TheVariants.{Bay}
 use Rattle.registers.specs.declared.fault.RegisterFault.{RegisterFault}
 use Rattle.registers.specs.declared.fault.RegisterFault.TheVariants as rf
-use Rattle.walks.specs.Sheet.{row_at, row_of}
-use Rattle.bay.specs.Faults.{bay_code, refused}
+use Rattle.walks.specs.Sheet.{row_at}
+use Rattle.bay.specs.Faults.{bay_code}
 use Rattle.bay.specs.Leg.{no_leg, noted}
 use Rattle.bay.specs.Plain.{Ends, Plain, room_causes}
 use Rattle.bay.specs.Routes.{Looped, Reached, Routed, Unreached, note_of, no_ends}

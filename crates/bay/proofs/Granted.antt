@@ -7,7 +7,7 @@ use Rattle.std.proofs.lemmas.Bool.{le-leb, lt-leb}
 use Rattle.registers.specs.Fault.{after, first_cause}
 use Rattle.registers.specs.declared.fault.Code.{Code}
 use Rattle.bay.specs.Legs.{opened, struck}
-use Rattle.bay.specs.Plain.{Ends, ends}
+use Rattle.bay.specs.Plain.{ends}
 use Rattle.bay.specs.declared.legs.Leg.{Leg}
 
 pub after_granted : {X : Type 0} (v : Option Code) (x y z : X) → None ≡ v → z ≡ y → z ≡ after v x y

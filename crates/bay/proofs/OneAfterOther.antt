@@ -1,11 +1,9 @@
 -- Calls that are made one after the other keep the law over runs: by recursion over the calls, since the plain bay and the
 -- legs after the first call are where the rest begins.
-use Rattle.std.proofs.Common.{◌≡◌, ℕ, zero, suc, ◌<◌, List, [], ◌∷◌, map, length, get_or, take, sym, ap, ◌∙◌, subst, subst₂, le_of_suc-le-suc, arith}
+use Rattle.std.proofs.Common.{zero, suc, [], ◌∷◌, map, get_or, take, ap, ◌∙◌, subst, subst₂, le_of_suc-le-suc, arith}
 use Rattle.costs.specs.Algebra.{Algebra}
-use Rattle.bay.specs.Plain.{Plain}
-use Rattle.bay.specs.OneByOne.{Made, OneByOne, answer_of, call_of, no_call}
+use Rattle.bay.specs.OneByOne.{OneByOne, answer_of, call_of, no_call}
 use Rattle.bay.specs.Runs.{Right, legs_after, legs_step, plain_after, room_for}
-use Rattle.bay.specs.declared.legs.Leg.{Leg}
 
 pub one_by_one : (A : Algebra) {C : Type 0} (value : C → A.Value) → OneByOne A value
 one_by_one A value p legs [] given i h = absurd (omega arith)

@@ -1,26 +1,25 @@
 -- What the route call is owed: the room that its first causes leave, the loop in row 0, and the granted route.
-use Rattle.std.proofs.Common.{◌≡◌, ℕ, suc, ◌+◌, ◌*◌, ◌<◌, ◌≤◌, Bool, true, false, cond, eqb, ltb, List, [], ◌∷◌, ◌++◌, map, length, get_or, Some, None, Option, sym, refl, ap, ◌∙◌, subst, ⊎_elim, arith, length-append}
+use Rattle.std.proofs.Common.{◌≡◌, ℕ, ◌*◌, ◌<◌, ◌≤◌, Bool, true, false, cond, eqb, ltb, List, [], ◌∷◌, map, length, get_or, Some, None, Option, sym, refl, ap, ◌∙◌, subst, ⊎_elim, arith, length-append}
 use lib.ListN.{length-map}
 use Rattle.std.proofs.lemmas.List.{get_or_default, get_or-map, get_or_past}
 use Rattle.std.proofs.lemmas.Bool.{cases_lt, eqb-false, ltb-false}
 use Rattle.costs.specs.Algebra.{Algebra, Lawful}
 use Rattle.registers.specs.Fault.{code, first_cause}
-use Rattle.registers.specs.declared.fault.Code.{Code}
 use Rattle.registers.specs.declared.fault.Layer.TheVariants.{Bay}
 use Rattle.walks.proofs.Cut.{distinct_few}
 use Rattle.walks.proofs.Loops.{runs_inside}
 use Rattle.walks.proofs.Runs.{to_runs}
 use Rattle.walks.proofs.Sheets.{get_or_put_row_above, length_put_row, length_row_of, row_at_put_row}
 use Rattle.walks.specs.Cells.{cards_in, empty, Each, Laid}
-use Rattle.walks.specs.Sheet.{put_row, row_at, row_of}
+use Rattle.walks.specs.Sheet.{row_at, row_of}
 use Rattle.walks.specs.Solved as solved
 use Rattle.walks.specs.Solved.{LoopWritten, Settled}
 use Rattle.walks.specs.Theorems.{Sound}
-use Rattle.walks.specs.Walk.{path, cost, Gains, Least, Loop}
+use Rattle.walks.specs.Walk.{path, Gains, Least, Loop}
 use Rattle.walks.specs.declared.cells.Cell.{Cell}
 use Rattle.bay.specs.Leg.{no_leg, noted}
 use Rattle.bay.specs.Plain.{ends, room_causes}
-use Rattle.bay.specs.Routes.{Looped, no_ends, note_of}
+use Rattle.bay.specs.Routes.{Looped, no_ends}
 use Rattle.bay.specs.Routing.{Beyond}
 use Rattle.bay.specs.declared.legs.Leg.{Leg}
 use Rattle.bay.specs.declared.legs.Note.{Note}

@@ -1,5 +1,5 @@
 -- A list of calls grows by one call and its answer: the law over the run, and what the run leaves.
-use Rattle.std.proofs.Common.{◌≡◌, ℕ, ◌+◌, ◌*◌, ◌<◌, ◌≤◌, List, [], ◌∷◌, ◌++◌, length, get_or, take, Some, None, fold, Option, sym, refl, ap, ◌∙◌, subst, subst₂, ⊎_elim, arith, length-append, take_all}
+use Rattle.std.proofs.Common.{◌≡◌, ℕ, ◌+◌, ◌*◌, ◌<◌, ◌≤◌, List, [], ◌∷◌, ◌++◌, length, get_or, take, Some, None, Option, sym, refl, ap, ◌∙◌, subst, subst₂, ⊎_elim, arith, length-append, take_all}
 use lib.Seq.{get_or-append_seam, take-append-le}
 use Rattle.std.proofs.lemmas.List.{get_or_append_left, take_at, take_more}
 use Rattle.std.proofs.lemmas.List.Sums.{fold_push}
@@ -117,6 +117,10 @@ module _ (A : Algebra) {C : Type 0} (value : C → A.Value) where
 
   pub run_begins : (p : Plain A.Value) (before : Desk C) (answers : List (Answer C)) → answers ≡ [] → RunDone A value p p before before [] answers
   run_begins p before answers e = subst (RunDone A value p p before before []) (sym e) (run_none p before)
+
+  -- where there was no room for an answer, no call was made
+  pub run_unmade : (p : Plain A.Value) (before : Desk C) (calls : List (Call C)) (answers : List (Answer C)) → answers ≡ [] → RunDone A value p p before before (take (length answers) calls) answers
+  run_unmade p before calls answers e = subst (λ xs. RunDone A value p p before before (take (length xs) calls) xs) (sym e) (run_none p before)
 
   pub run_ends : (p q : Plain A.Value) (before now : Desk C) (calls : List (Call C)) (i : ℕ) (answers : List (Answer C)) → length calls ≤ i → RunDone A value p q before now (take i calls) answers → RunDone A value p q before now calls answers
   run_ends p q before now calls i answers h run = subst (λ cs. RunDone A value p q before now cs answers) (take_all i calls h) run

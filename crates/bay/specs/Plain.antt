@@ -1,8 +1,8 @@
 -- The plain bay: what the calls and their arguments alone make of a bay. It knows the register's meaning and the booked ends.
-use Rattle.std.specs.Prelude.{ℕ, ◌*◌, Bool, List, [], ◌∷◌, ◌++◌, map, length, ◌==◌, nat_le, nat_lt}
+use Rattle.std.specs.Prelude.{ℕ, ◌*◌, Bool, List, [], ◌∷◌, ◌++◌, length, ◌==◌, nat_le, nat_lt}
 use Rattle.costs.specs.Algebra.{Algebra}
 use Rattle.registers.specs.Fault.{code, first_cause, after}
-use Rattle.registers.specs.Meaning.{Meaning, end_causes, enter_causes, withdraw_causes, entered, withdrawn, standing}
+use Rattle.registers.specs.Meaning.{Meaning, end_causes, enter_causes, withdraw_causes, entered, withdrawn}
 use Rattle.registers.specs.declared.fault.Code.{Code}
 use Rattle.registers.specs.declared.fault.Layer.TheVariants.{Bay}
 use Rattle.bay.specs.Legs.{most_legs, struck}

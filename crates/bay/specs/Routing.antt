@@ -5,8 +5,7 @@ use Rattle.registers.specs.Fault.{code, first_cause}
 use Rattle.registers.specs.Meaning.{standing}
 use Rattle.registers.specs.declared.fault.Code.{Code}
 use Rattle.registers.specs.declared.fault.Layer.TheVariants.{Bay}
-use Rattle.walks.specs.Cells.{empty}
-use Rattle.walks.specs.Sheet.{row_at, row_of, put_row}
+use Rattle.walks.specs.Sheet.{row_at}
 use Rattle.walks.specs.Walk.{Gains}
 use Rattle.walks.specs.declared.cells.Cell.{Cell}
 use Rattle.bay.specs.Faults.{refused}

@@ -32,8 +32,8 @@ returns-in-Err-book g c =
       chains = refl;
     })
 
-pub returns-in_ok-told : goal.returns-in_ok-told
-returns-in_ok-told g c =
+pub returns-in_ok-told-in-Route : goal.returns-in_ok-told-in-Route
+returns-in_ok-told-in-Route g c =
     let told = c.route_answer.ensures in
     call_given g.R.Cost.Cost.algebra g.R.Cost.Cost.value _ _ _ _ _ Route _ c.in-Route.is
     (record { right = told.right; plain_is = told.same; legs = told.legs; table = told.table; costs = told.costs; chains = told.chains })

@@ -4,8 +4,8 @@ use lib.ListN.{length-map}
 use Rattle.registers.specs.Meaning.{meant, standing}
 use Rattle.walks.proofs.Follow.{none_ticked}
 use Rattle.walks.specs.Sheet.{row_at}
-use Rattle.bay.specs.Legs.{booked, opened}
-use Rattle.bay.specs.Plain.{Plain, ends}
+use Rattle.bay.specs.Legs.{booked}
+use Rattle.bay.specs.Plain.{ends}
 use Rattle.bay.specs.Routes.{Routed, note_of}
 use Rattle.bay.specs.Routing.{Beyond}
 use Rattle.bay.proofs.Granted.{ends_opened}

@@ -1,17 +1,17 @@
 -- The law grows by one call and its answer each turn.
-use Rattle.std.proofs.Common.{vec_items, ◌∙◌, arith}
+use Rattle.std.proofs.Common.{vec_items, arith}
 use Rattle.bay.specs.Bays.{plain}
 use Rattle.bay.specs.Legs.{booked}
-use Rattle.bay.proofs.RunSteps.{run_begins, run_ends, run_turn}
+use Rattle.bay.proofs.RunSteps.{run_begins, run_ends, run_turn, run_unmade}
 use Rattle.bay.proofs.bays.Bay.run.Goals as goal
 
 pub loop-call-init : goal.loop-call-init
 loop-call-init g c =
-    let made = c.in-Ok.ensures.made in (
-      made.1.0,
-      made.1.1,
+    let made = c.in-Ok.ensures in (
+      made.len,
+      made.capacity,
       omega arith,
-      run_begins g.R.Cost.Cost.algebra g.R.Cost.Cost.value (plain g.R.Cost.Cost.algebra g.R.Cost.Cost.value g.R.Register.holds c.args.self.now) (record { legs = booked c.args.self.now.legs; table = c.args.table.now; costs = c.args.costs.now; chains = c.args.chains.now }) (vec_items c.in-Ok.answers) made.0,
+      run_begins g.R.Cost.Cost.algebra g.R.Cost.Cost.value (plain g.R.Cost.Cost.algebra g.R.Cost.Cost.value g.R.Register.holds c.args.self.now) (record { legs = booked c.args.self.now.legs; table = c.args.table.now; costs = c.args.costs.now; chains = c.args.chains.now }) (vec_items c.in-Ok.answers) made.items,
     )
 
 pub loop-call-preserved : goal.loop-call-preserved
@@ -30,3 +30,7 @@ pub returns : goal.returns
 returns g c =
     run_ends g.R.Cost.Cost.algebra g.R.Cost.Cost.value (plain g.R.Cost.Cost.algebra g.R.Cost.Cost.value g.R.Register.holds c.args.self.now) (plain g.R.Cost.Cost.algebra g.R.Cost.Cost.value g.R.Register.holds c.loop-call.self) (record { legs = booked c.args.self.now.legs; table = c.args.table.now; costs = c.args.costs.now; chains = c.args.chains.now }) (record { legs = booked c.loop-call.self.legs; table = c.loop-call.table; costs = c.loop-call.costs; chains = c.loop-call.chains }) c.args.calls.now c.loop-call.call-index (vec_items c.loop-call.answers)
     c.loop-call-test.false c.loop-call.invariant.3
+
+pub returns-in_default : goal.returns-in_default
+returns-in_default g c =
+    run_unmade g.R.Cost.Cost.algebra g.R.Cost.Cost.value (plain g.R.Cost.Cost.algebra g.R.Cost.Cost.value g.R.Register.holds c.args.self.now) (record { legs = booked c.args.self.now.legs; table = c.args.table.now; costs = c.args.costs.now; chains = c.args.chains.now }) c.args.calls.now c.new.result.items c.new.ensures.items

@@ -3,19 +3,15 @@ use Rattle.bay.specs.Leg.{no_leg}
 use Rattle.bay.proofs.LegSteps.{apart_set, length_booked, moved_none, moved_more, moved_all}
 use Rattle.bay.proofs.legs.Legs.remove.Goals as goal
 
-pub invariant-of-self : goal.invariant-of-self
-invariant-of-self c =
+pub invariant_of-self : goal.invariant_of-self
+invariant_of-self c =
     let legs = c.loop-place.self in
-    let here : c.loop-place.place + 1 < legs.count = omega (arith, c.loop-place.invariant.0) in (
-      length-set legs.list c.loop-place.place _ ∙ legs.long,
-      (
-        legs.few,
-        (
-          apart_set legs.count legs.list c.loop-place.place _ (omega (arith, legs.long, legs.few)) (λ k lt ne. legs.apart k lt) (legs.apart (c.loop-place.place + 1) here),
-          tt,
-        ),
-      ),
-    )
+    let here : c.loop-place.place + 1 < legs.count = omega (arith, c.loop-place.invariant.0) in
+    record {
+      long = length-set legs.list c.loop-place.place _ ∙ legs.long;
+      few = legs.few;
+      apart = apart_set legs.count legs.list c.loop-place.place _ (omega (arith, legs.long, legs.few)) (λ k lt ne. legs.apart k lt) (legs.apart (c.loop-place.place + 1) here);
+    }
 
 pub loop-place-init : goal.loop-place-init
 loop-place-init c = (refl, moved_none no_leg c.args.self.now.list c.args.number)
