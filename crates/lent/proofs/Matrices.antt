@@ -1,5 +1,5 @@
 -- A matrix: each pair has a place of its own, so a write there changes the card of that pair and of no other.
-use Rattle.std.proofs.Common.{◌≡◌, ℕ, ◌+◌, ◌-◌, ◌*◌, ◌/◌, ◌%◌, ◌<◌, ◌≤◌, Bool, true, false, cond, not, ◌&&◌, eqb, ltb, leb, ◌≢◌, List, ◌++◌, length, get_or, drop, set, replicate, is_some, Some, None, Option, sym, refl, ap, ◌∙◌, subst, inl, inr, ⊎_elim, arith}
+use Rattle.std.proofs.Common.{◌≡◌, ℕ, ◌+◌, ◌-◌, ◌*◌, ◌/◌, ◌%◌, ◌<◌, ◌≤◌, Bool, true, false, cond, not, ◌&&◌, eqb, ltb, leb, ◌≢◌, List, ◌++◌, length, get_or, drop, set, replicate, is_some, Some, None, Option, sym, refl, ap, ◌∙◌, subst, arith}
 use mathlib.Core.Path.{fun_ext}
 use Rattle.std.specs.Option.{option_map}
 use Rattle.std.proofs.lemmas.Nat.{mul-add-lt, div-mul-add, mod-mul-add}
@@ -7,7 +7,7 @@ use Rattle.std.proofs.lemmas.List.{length-set, length-append, length-drop, lengt
 use Rattle.std.proofs.lemmas.Bool.{and_parts, and_from, both_ways, not-true, eqb-true, eqb-false, leb-true, ltb-true, eq-eqb}
 use Rattle.registers.specs.Fault.{first_cause}
 use Rattle.registers.specs.declared.fault.Layer.TheVariants.{Register}
-use Rattle.registers.specs.Meaning.{Meaning, meant, put, standing, entered, withdrawn, end_causes, enter_causes, withdraw_causes}
+use Rattle.registers.specs.Meaning.{meant, put, standing, entered, withdrawn, end_causes, enter_causes, withdraw_causes}
 use Rattle.lent.specs.Lent.{size_fits, nearest_size, possible, how_many, begun, readable}
 use Rattle.lent.specs.Matrix.{matrix_fits, matrix_card, matrix, matrix_cleared}
 use Rattle.registers.proofs.Meanings.{same_meaning, possible_ends, good_ends, is_some_mapped, stands, enter_granted, enter_after, withdraw_granted, withdraw_after}

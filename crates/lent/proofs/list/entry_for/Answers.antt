@@ -1,4 +1,4 @@
-use Rattle.std.proofs.Common.{false, is_some, sym, ap, ◌∙◌}
+use Rattle.std.proofs.Common.{is_some, sym, ap, ◌∙◌}
 use Rattle.std.proofs.lemmas.List.{take_all}
 use Rattle.lent.specs.List.{first_cost}
 use Rattle.lent.specs.Lent.{admitted_by}

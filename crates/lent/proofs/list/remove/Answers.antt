@@ -1,4 +1,4 @@
-use Rattle.std.proofs.Common.{◌≡◌, cond, ◌++◌, take, drop, set, is_some, None, sym, ap, ◌∙◌}
+use Rattle.std.proofs.Common.{cond, ◌++◌, take, set, is_some, None, sym, ap, ◌∙◌}
 use Rattle.std.proofs.lemmas.List.Edits.{map_over_more}
 use Rattle.std.proofs.lemmas.List.{set-get_or, take_all, drop_all, append-nil}
 use Rattle.std.proofs.lemmas.Bool.{cond-true, cond-false}
