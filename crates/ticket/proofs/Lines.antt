@@ -1,20 +1,18 @@
 -- The rests of a stage are the texts of its allowed lines: each such text is read as its line,
 -- and what was read as a line is its text.
-use Rattle.std.proofs.Common.{◌≡◌, ℕ, zero, suc, ◌+◌, ◌<◌, ◌≤◌, ◌⊎◌, List, [], ◌∷◌, ◌++◌, length, get_or, ℤ, pos, negsuc, nat_abs, codes, decimal, sym, refl, ap, ◌∙◌, subst, inl, inr, arith}
+use Rattle.std.proofs.Common.{◌≡◌, ℕ, zero, suc, ◌<◌, ◌≤◌, List, [], ◌∷◌, ◌++◌, length, get_or, ℤ, pos, negsuc, nat_abs, codes, decimal, sym, refl, ap, ◌∙◌, subst, inl, inr, arith}
 use Rattle.std.specs.Fmt.{signed_decimal}
 use Rattle.std.proofs.lemmas.Fmt.{decimal_is_IsNumeral}
 use Rattle.std.proofs.lemmas.Str.Parse.{digit_at}
 use Rattle.std.proofs.lemmas.List.{get_or_append_left, length-append}
 use Rattle.ticket.specs.Signs.{line_end}
 use Rattle.ticket.specs.Grammar.{line_text, too_large, Allowed}
-use Rattle.ticket.specs.Rests.{Rest, dead, over, on, number, fixed, ending, closing, size_rest, code_rest, number_rest, below_zero, not_below, cost_rest, pair_end, to_rest, from_rest, kind_choice, kind_rest, word_rest, first_rest, line_rest}
-use Rattle.ticket.specs.declared.line.Kind.{Kind}
+use Rattle.ticket.specs.Rests.{Rest, dead, over, on, number, fixed, ending, closing, size_rest, code_rest, number_rest, below_zero, not_below, cost_rest, pair_end, to_rest, from_rest, kind_choice, word_rest, first_rest, line_rest}
 use Rattle.ticket.specs.declared.line.Kind.TheVariants.{Delay, Depth}
 use Rattle.ticket.specs.declared.line.Line.{Line}
 use Rattle.ticket.specs.declared.line.Line.TheVariants.{Bay, Format, Card, Leg, End}
 use Rattle.ticket.specs.declared.line.Stage.{Stage}
 use Rattle.ticket.specs.declared.line.Stage.TheVariants.{Start, Formats, Cards, Legs}
-use Rattle.ticket.specs.declared.words.Word.{Word}
 use Rattle.ticket.specs.declared.words.Word.TheVariants as word
 use Rattle.ticket.proofs.Runs.{run, run_past, run_signs, on_went, fixed_began, signs_began, over_line, not_dead}
 use Rattle.ticket.proofs.Numbers.{run_number, number_began}

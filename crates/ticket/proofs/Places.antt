@@ -1,15 +1,15 @@
 -- What a caller that reads line after line wants of an answer: each line takes the text further, and no farther than its end;
 -- and there is one answer alone.
-use Rattle.std.proofs.Common.{◌≡◌, ℕ, ◌+◌, ◌-◌, ◌<◌, ◌≤◌, ◌⊎◌, List, [], ◌∷◌, ◌++◌, length, take, drop, Ok, Err, Result, sym, refl, ap, ◌∙◌, subst, inl, inr, append_assoc, append-nil, arith}
-use Rattle.std.proofs.lemmas.List.{take-append-drop, take-append-le, take-take, take_at, take_all, length-drop, length-append, length-take-le}
+use Rattle.std.proofs.Common.{◌≡◌, ℕ, ◌+◌, ◌-◌, ◌<◌, ◌≤◌, List, [], ◌∷◌, ◌++◌, length, take, drop, Ok, Err, Result, sym, refl, ap, ◌∙◌, subst, inl, inr, append_assoc, append-nil, arith}
+use Rattle.std.proofs.lemmas.List.{take-append-drop, take-append-le, take-take, take_at, length-drop, length-append}
 use Rattle.std.proofs.lemmas.Bool.{cases_lt, cases_order}
-use Rattle.ticket.specs.Grammar.{line_text, Allowed, Fits, Unfinished, part, number_begins, code_begins, IsRead, IsRefused, ReadLine}
-use Rattle.ticket.specs.Rests.{Rest, dead, over, after_byte, line_rest}
+use Rattle.ticket.specs.Grammar.{line_text, Fits, Unfinished, part, number_begins, code_begins, IsRead, IsRefused, ReadLine}
+use Rattle.ticket.specs.Rests.{Rest, over, after_byte, line_rest}
 use Rattle.ticket.specs.declared.line.Line.{Line}
 use Rattle.ticket.specs.declared.line.Line.TheVariants.{Bay, Format, Card, Leg, End}
 use Rattle.ticket.specs.declared.line.Read.{Read}
 use Rattle.ticket.specs.declared.line.Stage.{Stage}
-use Rattle.ticket.proofs.Runs.{run, run_append, not_dead}
+use Rattle.ticket.proofs.Runs.{run, not_dead}
 use Rattle.ticket.proofs.Lines.{complete}
 
 -- a line has a byte at least

@@ -1,9 +1,9 @@
 -- The reader over the bytes of a text: what it knows at each place.
 -- Where it waits, some allowed line goes on; where a byte is refused, none does.
-use Rattle.std.proofs.Common.{◌≡◌, ℕ, ◌+◌, ◌-◌, ◌<◌, ◌≤◌, Bool, true, false, cond, List, [], ◌∷◌, ◌++◌, length, get_or, take, drop, pos, neg_ℤ, codes, decimal, sym, refl, ap, ◌∙◌, subst, arith}
+use Rattle.std.proofs.Common.{◌≡◌, ℕ, ◌+◌, ◌-◌, ◌<◌, ◌≤◌, Bool, true, false, List, [], ◌∷◌, ◌++◌, length, get_or, take, drop, pos, neg_ℤ, codes, decimal, sym, refl, ap, ◌∙◌, subst, arith}
 use Rattle.std.proofs.lemmas.List.{take_more, take_all, take-append-drop, drop-drop, get_or-drop, length-drop, length-append, length-take-le}
 use Rattle.ticket.specs.Grammar.{line_text, Allowed, Coded, Fits, Unfinished, part, number_begins, code_begins, IsRead}
-use Rattle.ticket.specs.Rests.{Rest, dead, over, on, number, digits, sign, after_byte, fixed, signs, letters_of, ending, closing, size_rest, code_rest, number_rest, below_zero, not_below, cost_rest, pair_end, to_rest, from_rest, kind_choice, word_end, word_rest, first_rest, line_rest, reading, cost_reading, rest_at, to_come}
+use Rattle.ticket.specs.Rests.{Rest, dead, over, after_byte, fixed, letters_of, ending, closing, size_rest, code_rest, number_rest, below_zero, not_below, cost_rest, pair_end, to_rest, from_rest, kind_choice, word_end, word_rest, first_rest, line_rest, reading, cost_reading, rest_at, to_come}
 use Rattle.ticket.specs.declared.line.Kind.{Kind}
 use Rattle.ticket.specs.declared.line.Kind.TheVariants.{Delay, Depth}
 use Rattle.ticket.specs.declared.line.Line.{Line}
@@ -17,7 +17,7 @@ use Rattle.ticket.specs.declared.words.Word.TheVariants as word
 use Rattle.ticket.specs.declared.reader.Reader.{Reader}
 use Rattle.ticket.specs.declared.reader.State.{State}
 use Rattle.ticket.specs.declared.reader.State.TheVariants.{Opening, First, InWord, InKind, Pair, Size, Number, From, To, PairEnd, Cost, InCode, Ending, Over}
-use Rattle.ticket.proofs.Runs.{run, run_append, run_dead, not_dead, Fine, fine_run, ends, Ends, Waits, waits_not_dead, waits_fixed, waits_signs, Live, live_fixed, live_signs, live_number}
+use Rattle.ticket.proofs.Runs.{run, run_append, not_dead, Fine, fine_run, ends, Waits, waits_not_dead, waits_fixed, waits_signs, Live, live_fixed, live_signs, live_number}
 use Rattle.ticket.proofs.Lines.{complete, sound}
 
 -- every stage has a line, and no way ends before it

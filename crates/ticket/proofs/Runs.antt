@@ -1,8 +1,8 @@
 -- What may come after several bytes, and how a line that was read to its end began.
 -- Every rest that is not dead has a line that ends it.
-use Rattle.std.proofs.Common.{◌≡◌, ℕ, zero, suc, ◌+◌, ◌-◌, ◌*◌, ◌<◌, ◌≤◌, Bool, true, false, cond, ◌&&◌, ◌||◌, eqb, leb, ◌⊎◌, List, [], ◌∷◌, ◌++◌, length, get_or, sym, refl, ap, ◌∙◌, subst, inl, inr, arith}
-use Rattle.std.specs.List.{AllByRecursion as All}
-use Rattle.std.proofs.lemmas.Bool.{eq-eqb, ne_eqb, eqb-true, eqb-false, le-leb, cond-true, cond-false, cases_Bool, and_from}
+use Rattle.std.proofs.Common.{◌≡◌, ℕ, zero, suc, ◌+◌, ◌-◌, ◌*◌, ◌≤◌, Bool, true, false, cond, ◌&&◌, ◌||◌, eqb, leb, ◌⊎◌, List, [], ◌∷◌, ◌++◌, length, sym, refl, ap, ◌∙◌, subst, inl, inr, arith}
+use Rattle.std.specs.List.{AllByRecursion}
+use Rattle.std.proofs.lemmas.Bool.{eq-eqb, ne_eqb, eqb-true, le-leb, cond-true, cond-false, cases_Bool}
 use Rattle.ticket.specs.Signs.{digit, letter}
 use Rattle.ticket.specs.Rests.{Rest, dead, over, on, number, digits, sign, after_byte, grows, fixed, signs}
 use Rattle.ticket.specs.declared.line.Line.{Line}
@@ -82,7 +82,7 @@ fixed_began (b ∷ w) r bs l e = elim (on_went b (fixed w r) dead bs l e) [
 abbrev pub coded : ℕ → Type 0
 coded c = (letter c || digit c) ≡ true
 
-pub run_signs : (n : ℕ) (next : List ℕ → Rest) (cs bs : List ℕ) → length cs ≡ n → All coded cs → run (signs n next) (cs ++ bs) ≡ run (next cs) bs
+pub run_signs : (n : ℕ) (next : List ℕ → Rest) (cs bs : List ℕ) → length cs ≡ n → AllByRecursion coded cs → run (signs n next) (cs ++ bs) ≡ run (next cs) bs
 run_signs zero next [] bs e h = refl
 run_signs zero next (c ∷ cs) bs e h = absurd (omega arith)
 run_signs (suc n) next [] bs e h = absurd (omega arith)
@@ -94,7 +94,7 @@ pub record Signed (n : ℕ) (next : List ℕ → Rest) (bs : List ℕ) (l : Line
   pub signs : List ℕ
   pub rest : List ℕ
   pub count : length signs ≡ n
-  pub all : All coded signs
+  pub all : AllByRecursion coded signs
   pub whole : bs ≡ signs ++ rest
   pub runs : run (next signs) rest ≡ over l
 

@@ -1,18 +1,16 @@
 -- One step of the reader inside a word or a code, where how far it has come is a variable.
 -- The other steps compute.
-use Rattle.std.proofs.Common.{◌≡◌, ℕ, zero, suc, ◌+◌, ◌-◌, ◌<◌, ◌≤◌, Bool, true, false, cond, ◌&&◌, ◌||◌, eqb, ltb, List, [], ◌∷◌, ◌++◌, length, get_or, take, drop, set, codes, sym, refl, ap, ◌∙◌, inl, inr, append_assoc, arith, rules}
+use Rattle.std.proofs.Common.{◌≡◌, ℕ, zero, suc, ◌+◌, ◌-◌, ◌<◌, ◌≤◌, Bool, true, false, cond, ◌&&◌, ◌||◌, eqb, List, [], ◌∷◌, ◌++◌, length, get_or, take, drop, set, codes, sym, refl, ap, ◌∙◌, inl, inr, append_assoc, arith}
 use mathlib.Core.Path.{fun_ext}
 use Rattle.std.proofs.lemmas.List.{drop_more, drop_all, take_more_set, take_all, append-nil}
 use Rattle.std.proofs.lemmas.Bool.{eq-eqb, ne_eqb, cond-true, cond-false, cases_lt, ltb-true, lt-ltb, eqb-true, and_parts, and_from, both_ways}
 use Rattle.std.proofs.lemmas.Bool.Decides.{nat_tests}
 use Rattle.ticket.specs.Signs.{digit, letter, sort_of}
-use Rattle.ticket.specs.Rests.{Rest, dead, over, on, after_byte, fixed, signs, letters_of, word_end, word_rest, kind_rest, kind_choice, code_rest, closing, to_come, rest_at, left, takes_letter, with_letter}
-use Rattle.ticket.specs.declared.line.Line.{Line}
+use Rattle.ticket.specs.Rests.{Rest, dead, after_byte, fixed, signs, letters_of, word_end, word_rest, kind_choice, code_rest, closing, to_come, rest_at, left, takes_letter, with_letter}
 use Rattle.ticket.specs.declared.line.Line.TheVariants as line
 use Rattle.ticket.specs.declared.reader.Reader.{Reader}
 use Rattle.ticket.specs.declared.reader.State.{State}
 use Rattle.ticket.specs.declared.reader.State.TheVariants.{InWord, InKind, InCode}
-use Rattle.ticket.specs.declared.sort.Sort.{Sort}
 use Rattle.ticket.specs.declared.sort.Sort.TheVariants.{Letter, Digit, Space, Close}
 use Rattle.ticket.specs.declared.words.Word.{Word}
 use Rattle.ticket.specs.declared.words.Word.TheVariants.{Bay, Delay, Depth, Format, Card, Leg, End}

@@ -1,8 +1,8 @@
 -- The lines of a ticket as texts, which of them are allowed where, and what it is to read one.
 -- A line is one form and a line end; one space stands between words, and none elsewhere.
-use Rattle.std.specs.Prelude.{◌≡◌, ℕ, ◌+◌, ◌-◌, ◌<◌, ◌≤◌, Bool, true, ◌||◌, ◌⊎◌, List, [], ◌∷◌, ◌++◌, length, take, drop, ℤ, Ok, Err, codes, decimal, Result, unsigned_abs}
+use Rattle.std.specs.Prelude.{◌≡◌, ℕ, ◌+◌, ◌-◌, ◌<◌, ◌≤◌, true, ◌||◌, ◌⊎◌, List, [], ◌∷◌, ◌++◌, length, take, drop, Ok, Err, codes, decimal, Result, unsigned_abs}
 use Rattle.std.specs.Fmt.{signed_decimal}
-use Rattle.std.specs.List.{AllByRecursion as All}
+use Rattle.std.specs.List.{AllByRecursion}
 use Rattle.ticket.specs.Signs.{digit, letter, line_end}
 use Rattle.ticket.specs.declared.line.Kind.{Kind}
 use Rattle.ticket.specs.declared.line.Kind.TheVariants.{Delay, Depth}
@@ -30,7 +30,7 @@ too_large = 10_000_000
 
 -- four letters or digits
 abbrev pub Code : List ℕ → Type 0
-Code code = (length code ≡ 4) × All (λ c. (letter c || digit c) ≡ true) code
+Code code = (length code ≡ 4) × AllByRecursion (λ c. (letter c || digit c) ≡ true) code
 
 -- The bay line comes first, then the formats, then cards and legs; no card comes after a leg.
 abbrev pub Allowed : Stage → Line → Type 0

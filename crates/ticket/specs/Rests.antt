@@ -1,6 +1,6 @@
 -- What may still come of a line after some of its bytes, and what the line reader knows of it.
 -- The proofs show that the rests of a stage's first byte are the texts of its allowed lines.
-use Rattle.std.specs.Prelude.{ℕ, zero, suc, ◌+◌, ◌-◌, ◌*◌, ◌<◌, Bool, true, false, cond, ◌&&◌, ◌||◌, List, [], ◌∷◌, ◌++◌, length, take, drop, ℤ, pos, neg_ℤ, Some, None, codes, Option, ◌==◌, nat_le, nat_lt, slice_index}
+use Rattle.std.specs.Prelude.{ℕ, zero, suc, ◌+◌, ◌-◌, ◌*◌, Bool, true, false, cond, ◌&&◌, ◌||◌, List, [], ◌∷◌, ◌++◌, length, take, drop, pos, neg_ℤ, Some, None, codes, Option, ◌==◌, nat_le, nat_lt, slice_index}
 use Rattle.ticket.specs.Signs.{digit, letter, line_end}
 use Rattle.ticket.specs.declared.line.Kind.{Kind}
 use Rattle.ticket.specs.declared.line.Kind.TheVariants.{Delay, Depth}

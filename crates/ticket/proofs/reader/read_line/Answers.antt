@@ -1,6 +1,6 @@
 -- Each byte is one step of what may come. Where the reader is at the end of a line, the bytes so far are that line;
 -- where it refuses a byte, or the text ends, the bytes before are part of one.
-use Rattle.std.proofs.Common.{◌≡◌, ◌+◌, ◌<◌, ◌≤◌, length, Ok, Err, sym, refl, ap, ◌∙◌, inl, inr, arith}
+use Rattle.std.proofs.Common.{◌+◌, ◌<◌, ◌≤◌, length, Ok, Err, sym, refl, ap, ◌∙◌, inl, inr, arith}
 use Rattle.ticket.specs.Grammar.{part, IsRead, IsRefused}
 use Rattle.ticket.specs.Rests.{line_rest, to_come}
 use Rattle.ticket.proofs.Runs.{run}

@@ -1,6 +1,6 @@
 -- The code has one sign more.
 use Rattle.std.proofs.Common.{sym, ap, ◌∙◌, arith, rules}
-use Rattle.ticket.specs.Rests.{after_byte, rest_at}
+use Rattle.ticket.specs.Rests.{after_byte}
 use Rattle.ticket.specs.declared.reader.State.TheVariants.{InCode}
 use Rattle.ticket.proofs.Steps.{code_goes, in_state}
 use Rattle.ticket.proofs.reader.Reader.code_sign.Goals as goal

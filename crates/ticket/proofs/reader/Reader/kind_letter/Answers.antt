@@ -1,6 +1,6 @@
 -- After two letters the third chooses the kind.
-use Rattle.std.proofs.Common.{◌≡◌, sym, ap, ◌∙◌, subst, arith, rules}
-use Rattle.ticket.specs.Rests.{after_byte, rest_at, to_come, kind_choice, dead, word_rest}
+use Rattle.std.proofs.Common.{◌≡◌, subst, arith, rules}
+use Rattle.ticket.specs.Rests.{after_byte, to_come, kind_choice, dead, word_rest}
 use Rattle.ticket.proofs.Steps.{kind_over}
 use Rattle.std.proofs.lemmas.Bool.Decides.{nat_tests}
 use Rattle.ticket.proofs.reader.Reader.kind_letter.Goals as goal

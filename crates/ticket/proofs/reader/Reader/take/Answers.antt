@@ -1,6 +1,6 @@
 -- The steps inside a word or a code; the others compute.
 use Rattle.std.proofs.Common.{◌≡◌, cond, sym, ap, ◌∙◌, arith, rules}
-use Rattle.ticket.specs.Rests.{after_byte, left, takes_letter, with_letter, to_come}
+use Rattle.ticket.specs.Rests.{after_byte, left, with_letter, to_come}
 use Rattle.ticket.proofs.Steps.{word_letter, sort_letter, sort_close, code_over, word_stops, kind_stops, code_too_short, code_stops_there}
 use Rattle.ticket.proofs.reader.Reader.take.Goals as goal
 
@@ -21,14 +21,14 @@ returns-in-InCode-Close c =
     let f : c.args.sign ≡ 41 = sort_close c.args.sign c.in-InCode-Close.ensures in
     record { goes = ap (λ t. after_byte t 41) e ∙ ap (after_byte (to_come c.args.self.now)) (sym f); small = search rules }
 
-pub returns-in_default·3 : goal.returns-in_default·3
-returns-in_default·3 c = record { goes = search (rules, word_stops); small = search rules }
+pub returns-in_default-3 : goal.returns-in_default-3
+returns-in_default-3 c = record { goes = search (rules, word_stops); small = search rules }
 
-pub returns-in_default·4 : goal.returns-in_default·4
-returns-in_default·4 c = record { goes = search (rules, kind_stops); small = search rules }
+pub returns-in_default-4 : goal.returns-in_default-4
+returns-in_default-4 c = record { goes = search (rules, kind_stops); small = search rules }
 
-pub returns-in_default·20 : goal.returns-in_default·20
-returns-in_default·20 c = record { goes = search (rules, code_too_short); small = search rules }
+pub returns-in_default-20 : goal.returns-in_default-20
+returns-in_default-20 c = record { goes = search (rules, code_too_short); small = search rules }
 
-pub returns-in_default·21 : goal.returns-in_default·21
-returns-in_default·21 c = record { goes = search (rules, code_stops_there); small = search rules }
+pub returns-in_default-21 : goal.returns-in_default-21
+returns-in_default-21 c = record { goes = search (rules, code_stops_there); small = search rules }
