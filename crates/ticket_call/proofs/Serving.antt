@@ -4,7 +4,6 @@ use Rattle.std.proofs.lemmas.List.{take-append-drop}
 use Rattle.std.proofs.lemmas.Slice.{drop-append-drop}
 use Rattle.std.proofs.lemmas.Bool.{and_parts, and_from, not-false, ltb-false, leb-true}
 use Rattle.costs.specs.Algebra.{Algebra}
-use Rattle.registers.specs.Fault.{first_cause}
 use Rattle.registers.specs.Meaning.{Meaning, meant}
 use Rattle.lent.specs.Lent.{begun, nearest_size, size_fits}
 use Rattle.lent.specs.List.{entries_fit, list_fits}
@@ -12,8 +11,8 @@ use Rattle.lent.specs.declared.list.Entry.{Entry}
 use Rattle.walks.specs.declared.cells.Cell.{Cell}
 use Rattle.ticket.specs.declared.line.Read.{Read}
 use Rattle.ticket_call.specs.Answers.{Common, LinesAnswer}
-use Rattle.ticket_call.specs.Faults.{Told}
-use Rattle.ticket_call.specs.Said.{Said, adds, bay_causes, ticket_entries, in_front, Passes, More, Through, Stops, Completes}
+use Rattle.ticket_call.specs.Faults.{Told, first_told}
+use Rattle.ticket_call.specs.Said.{Said, adds, bay_causes, ticket_entries, in_front, Through, Stops, Completes}
 use Rattle.ticket_call.specs.declared.fault.Refusal.{Refusal}
 use Rattle.ticket_call.proofs.Taking.{none_holds}
 
@@ -49,7 +48,7 @@ module _ (A : Algebra) {C : Type 0} (value : C → A.Value) (cost_of : ℤ → C
     }
 
 -- a bay line that passes: the size is one that a register has, and there are entries enough
-pub bay_fits : (n entries : ℕ) → first_cause (bay_causes n entries) ≡ None → (size_fits n ≡ true) × (ticket_entries ≤ entries)
+pub bay_fits : (n entries : ℕ) → first_told (bay_causes n entries) ≡ None → (size_fits n ≡ true) × (ticket_entries ≤ entries)
 bay_fits n entries e =
     let none = none_holds (bay_causes n entries) e in
     (not-false (size_fits n) none.0, ltb-false entries ticket_entries none.1.0)

@@ -1,3 +1,4 @@
+pub mod Ends
 pub mod Faults
 pub mod Kinds
 pub mod Said

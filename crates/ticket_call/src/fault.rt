@@ -2,7 +2,7 @@
 ghost use Rattle.std.specs.Prelude.{◌≡◌};
 ghost use Rattle.ticket_call.specs.Faults.{ticket_code, passed_on, at_byte};
 
-use bay::{BayFault, BayFaultDebug, BayFaultEq, BayFaultPartialEq};
+use bay::BayFault;
 use registers::{Code, Layer};
 
 #[derive(Clone, Copy, Debug, PartialEq, Eq)]

@@ -10,5 +10,5 @@ mod serve;
 pub use fault::{Refusal, TicketFault};
 pub use formats::{FourCc, MOST_CODES};
 pub use kinds::TicketCost;
-pub use orders::MOST_LEGS;
+pub use orders::{LegEnds, MOST_LEGS};
 pub use serve::{Granted, MOST_BYTES, Sheets, TICKET_ENTRIES, route_ticket};

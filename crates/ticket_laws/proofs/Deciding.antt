@@ -49,7 +49,7 @@ module _ (A : Algebra) {C : Type 0} (value : C → A.Value) (cost_of : ℤ → C
   refused_not_passed s from t read (inl h) p = not_both (due s) text from read t.byte p.is_read h.0
   refused_not_passed s from t read (inr h) p =
       let e = one_read (due s) text from read h.0 p.is_read h.1 in
-      none≢some _ t p.no_cause (ap (λ r. first_cause (line_causes A value cost_of s (length text) from r.line)) e ∙ h.2)
+      none≢some _ t p.no_cause (ap (λ r. first_told (line_causes A value cost_of s (length text) from r.line)) e ∙ h.2)
 
   final_not_more : (s : Said A.Value) (from : ℕ) (read : Read) → Final s from → Passes A value cost_of text s from read → More read.line → ⊥
   final_not_more s from read (inl h) p m = refused_not_passed s from h.0 read h.1 p
@@ -80,7 +80,7 @@ module _ (A : Algebra) {C : Type 0} (value : C → A.Value) (cost_of : ℤ → C
   one_told s from t u (inr h) (inl k) = absurd (not_both (due s) text from h.0 u.byte h.1 k.0)
   one_told s from t u (inr h) (inr k) =
       let e = one_read (due s) text from k.0 h.0 k.1 h.1 in
-      same_some _ t u h.2 (sym (ap (λ r. first_cause (line_causes A value cost_of s (length text) from r.line)) e) ∙ k.2)
+      same_some _ t u h.2 (sym (ap (λ r. first_told (line_causes A value cost_of s (length text) from r.line)) e) ∙ k.2)
 
 -- what an answer tells
 abbrev pub outcome : Result ℕ BayFault → Result ℕ Code

@@ -10,7 +10,7 @@ use Rattle.walks.specs.Sheet.{row_at, row_of}
 use Rattle.bay.specs.Plain.{Plain, room_causes}
 use Rattle.bay.specs.Routing.{RouteAnswer}
 use Rattle.bay.specs.declared.fault.BayFault.{BayFault}
-use Rattle.bay.specs.declared.legs.Ends.{Ends}
+use Rattle.bay.specs.Plain.{Ends}
 use Rattle.bay.specs.declared.legs.Leg.{Leg}
 use Rattle.ticket.specs.declared.line.Kind.{Kind}
 use Rattle.ticket.specs.declared.line.Kind.TheVariants as kind

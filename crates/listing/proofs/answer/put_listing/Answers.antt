@@ -1,7 +1,7 @@
 use Rattle.std.proofs.Common.{◌≡◌, ℕ, ◌+◌, min, List, ◌++◌, map, get_or, ℤ, pos, sym, ap, ◌∙◌, add-one, arith, w32, SFits, rules}
 use Rattle.std.proofs.lemmas.Int.{to_z-of_z}
 use Rattle.bay.specs.Routes.{no_ends}
-use Rattle.bay.specs.declared.legs.Ends.{Ends}
+use Rattle.bay.specs.Plain.{Ends}
 use Rattle.listing.specs.Text.{legs_text, leg_text, formats_of}
 use Rattle.listing.proofs.Writing.{writes_both, writes_is, writes_none}
 use Rattle.listing.proofs.answer.put_listing.Goals as goal

@@ -1,10 +1,10 @@
-use Rattle.std.proofs.Common.{◌≡◌, ℕ, List, [], map, length, take, sym, ap, ◌∙◌, inl, inr, arith, rules}
+use Rattle.std.proofs.Common.{[], map, length, take, sym, ap, ◌∙◌, inr, arith}
 use Rattle.std.proofs.lemmas.List.{length-take-le}
 use Rattle.registers.specs.Meaning.{meant}
 use Rattle.lent.specs.Lent.{admitted_by, nearest_size}
 use Rattle.lent.specs.List.{listed}
 use Rattle.bay.specs.Plain.{ends}
-use Rattle.ticket_call.specs.Said.{Said, begins}
+use Rattle.ticket_call.specs.Said.{begins}
 use Rattle.ticket_call.proofs.Serving.{bay_fits, size_few, nearest_is, list_begins, lines_with_entries, entries_beyond}
 use Rattle.ticket_call.proofs.serve.serve.Goals as goal
 
