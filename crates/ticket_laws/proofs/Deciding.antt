@@ -19,7 +19,7 @@ use Rattle.ticket.specs.declared.line.Line.TheVariants.{End}
 use Rattle.ticket.specs.declared.line.Read.{Read}
 use Rattle.ticket.specs.declared.line.Stage.{Stage}
 use Rattle.ticket_call.specs.Answers.{OfKind, Common, desk, Refused, Routed, LinesAnswer, BayRefused, BayPasses, KindAnswer}
-use Rattle.ticket_call.specs.Faults.{Told, told, told_by, told_of, at_byte}
+use Rattle.ticket_call.specs.Faults.{first_told, Told, told, told_by, told_of, at_byte}
 use Rattle.ticket_call.specs.Said.{Said, begins, due, adds, line_causes, Passes, More, Through, LineRefused}
 use Rattle.ticket_call.specs.declared.fault.Refusal.{Refusal}
 

@@ -33,7 +33,7 @@ use Rattle.ticket.specs.declared.line.Read.{Read}
 use Rattle.ticket.specs.declared.line.Stage.{Stage}
 use Rattle.ticket.specs.declared.line.Stage.TheVariants.{Start, Formats, Cards, Legs}
 use Rattle.ticket_call.specs.Answers.{OfKind, Common, Memory, desk, LinesAnswer, KindAnswer, Judged, TicketAnswer, of_kind}
-use Rattle.ticket_call.specs.Faults.{told, at_byte}
+use Rattle.ticket_call.specs.Faults.{first_told, told, at_byte}
 use Rattle.ticket_call.specs.Kinds.{delay_of, depth_of}
 use Rattle.ticket_call.specs.Said.{Said, said, begins, due, adds, each_at, line_causes, ticket_entries, Passes, More, Through, Completes}
 use Rattle.ticket_laws.specs.Whole.{CardSaid, card_line, leg_line, format_lines, last_cost, cards_said, Whole, WholeAnswer}
