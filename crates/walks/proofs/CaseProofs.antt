@@ -15,16 +15,16 @@ use Rattle.walks.specs.Walk.{path, Walk, cost, WalkCosts, Least, Gains}
 use Rattle.walks.specs.Cases.{cards_of, WorkedCases, even_ring, free_pair, open_house, barred_house, deeper_way}
 
 -- a test of a card that stands
-abbrev passes : {V : Type 0} → (V → Bool) → Option V → Bool
+abbrev pub passes : {V : Type 0} → (V → Bool) → Option V → Bool
 passes f None = true
 passes f (Some x) = f x
 
-passes_value : {V : Type 0} (f : V → Bool) (o : Option V) (u : V) → passes f o ≡ true → is_some o ≡ true → f (unwrap_or o u) ≡ true
+pub passes_value : {V : Type 0} (f : V → Bool) (o : Option V) (u : V) → passes f o ≡ true → is_some o ≡ true → f (unwrap_or o u) ≡ true
 passes_value f None u t h = absurd (false≢true h)
 passes_value f (Some x) u t h = t
 
 -- the test f passes at every card
-abbrev Pass : {V : Type 0} → (ℕ → ℕ → Option V) → (ℕ → ℕ → V → Bool) → Type 0
+abbrev pub Pass : {V : Type 0} → (ℕ → ℕ → Option V) → (ℕ → ℕ → V → Bool) → Type 0
 Pass card f = (a b : ℕ) → passes (f a b) (card a b) ≡ true
 
 -- it does, where it passes at each card of the list
@@ -32,7 +32,7 @@ abbrev every_card : {V : Type 0} → (ℕ → ℕ → V → Bool) → List (ℕ 
 every_card f [] = true
 every_card f (l ∷ ls) = f l.0 l.1 l.2 && every_card f ls
 
-list_passes : {V : Type 0} (f : ℕ → ℕ → V → Bool) (ls : List (ℕ × ℕ × V)) → every_card f ls ≡ true → Pass (cards_of ls) f
+pub list_passes : {V : Type 0} (f : ℕ → ℕ → V → Bool) (ls : List (ℕ × ℕ × V)) → every_card f ls ≡ true → Pass (cards_of ls) f
 list_passes f [] t a b = refl
 list_passes f (l ∷ ls) t a b = by (list_passes f ls (and_parts (f l.0 l.1 l.2) (every_card f ls) t).1 a b) (eqb a l.0 && eqb b l.1) refl
   where
@@ -43,7 +43,7 @@ list_passes f (l ∷ ls) t a b = by (list_passes f ls (and_parts (f l.0 l.1 l.2)
     by rest false e = rest
 
 -- it does, where it passes at each place of the table
-abbrev every_below : ℕ → (ℕ → Bool) → Bool
+abbrev pub every_below : ℕ → (ℕ → Bool) → Bool
 every_below zero f = true
 every_below (suc n) f = f n && every_below n f
 
@@ -53,10 +53,10 @@ every_below_at (suc n) f t k h =
     let both = and_parts (f n) (every_below n f) t in
     ⊎_elim (λ e. ap f e ∙ both.0) (λ ne. every_below_at n f both.1 k (omega arith)) (cases_eq k n)
 
-abbrev every_place : {V : Type 0} → (ℕ → ℕ → V → Bool) → Meaning V → Bool
+abbrev pub every_place : {V : Type 0} → (ℕ → ℕ → V → Bool) → Meaning V → Bool
 every_place f m = every_below m.size (λ a. every_below m.size (λ b. passes (f a b) (standing m a b)))
 
-table_passes : {V : Type 0} (f : ℕ → ℕ → V → Bool) (m : Meaning V) → every_place f m ≡ true → Pass (standing m) f
+pub table_passes : {V : Type 0} (f : ℕ → ℕ → V → Bool) (m : Meaning V) → every_place f m ≡ true → Pass (standing m) f
 table_passes f m t a b = by (pair m a b) refl
   where
     by : (k : Bool) → pair m a b ≡ k → passes (f a b) (standing m a b) ≡ true
@@ -90,7 +90,7 @@ module _ (card : ℕ → ℕ → Option ℤ) (height : ℕ → ℤ) (rises : Pas
   walk_rises s (m ∷ k ∷ ms) t w =
       sum_step (height s) (height m) (height t) (unwrap_or (card s m) (pos 0)) (cost delay card (path m (k ∷ ms) t)) (card_rises s m w.0) (walk_rises m (k ∷ ms) t w.1)
 
-  no_gain : Gains delay card → ⊥
+  pub no_gain : Gains delay card → ⊥
   no_gain g = never_below (height g.0) (cost delay card (path g.0 g.1 g.0)) (walk_rises g.0 g.1 g.0 g.2) g.3
 
   least_by_heights : (s t : ℕ) (x : ℤ) → WalkCosts delay card s t x → height t ≡ height s +ℤ x → Least delay card s t (Some x)
@@ -98,7 +98,7 @@ module _ (card : ℕ → ℕ → Option ℤ) (height : ℕ → ℤ) (rises : Pas
       (w, λ y q. never_less (height s) (height t) x y (subst (λ z. height t ≤ℤ (height s +ℤ z)) q.2 (walk_rises s q.0 t q.1)) e)
 
 -- the heights of a list, format by format
-abbrev heights : List ℤ → ℕ → ℤ
+abbrev pub heights : List ℤ → ℕ → ℤ
 heights hs v = get_or hs v (pos 0)
 
 implied : (p q : Bool) → (not p || q) ≡ true → p ≡ true → q ≡ true
@@ -148,7 +148,7 @@ pair_heights = heights (pos 0 ∷ pos 0 ∷ pos 5 ∷ [])
 abbrev house_heights : ℕ → ℤ
 house_heights = heights (negsuc 1 ∷ pos 1 ∷ negsuc 0 ∷ negsuc 0 ∷ pos 0 ∷ pos 1 ∷ pos 2 ∷ pos 2 ∷ [])
 
-abbrev rising : (ℕ → ℤ) → ℕ → ℕ → ℤ → Bool
+abbrev pub rising : (ℕ → ℤ) → ℕ → ℕ → ℤ → Bool
 rising height a b c = le_z (height b) (height a +ℤ c)
 
 pair_rises : Pass (cards_of free_pair) (rising pair_heights)

@@ -1,4 +1,3 @@
-mod CaseProofs
 mod SampleLines
 mod SampleRoute
 mod SampleAnswer

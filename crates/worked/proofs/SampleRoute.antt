@@ -7,7 +7,7 @@ use Rattle.walks.specs.Sheet.{row_of}
 use Rattle.walks.specs.Walk.{path, Absent, Distinct, Walk, cost, Chain, Gains}
 use Rattle.bay.specs.Routes.{Unreached, Reached}
 use Rattle.bay.specs.Plain.{Ends}
-use Rattle.worked.proofs.CaseProofs.{Pass, passes_value, table_passes, heights, rising, no_gain}
+use Rattle.walks.proofs.CaseProofs.{Pass, passes_value, table_passes, heights, rising, no_gain}
 use Rattle.worked.proofs.SampleLines.{sample_said}
 
 -- the standing cards

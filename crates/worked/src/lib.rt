@@ -2,9 +2,9 @@
 // house table, and the sample ticket.
 #![tactic(auto)]
 
-ghost use Rattle.worked.specs.Cases.{WorkedCases};
+ghost use Rattle.worked.specs.Cases.{AllCases};
 
 // Does nothing; its contract is that they hold.
 pub fn worked_cases()
-    ensures { WorkedCases }
+    ensures { AllCases }
 {}
