@@ -1,7 +1,7 @@
 #!/usr/bin/env python3
 """Runs the program on generated tickets and checks every answer by the model.
 
-    python3 tools/outside.py --program target/bin/route --count 5000
+    python3 tools/outside.py --count 5000
 
 The ticket with an index depends on the seed and the index alone. At the first wrong answer the seed, the index and the
 ticket are printed, and the status is 1; `--only INDEX` runs that ticket again, and with `--print` writes it out instead.
@@ -464,7 +464,7 @@ def check_all(program: str, seed: int, indices: range) -> int:
 
 def main() -> int:
     parser = argparse.ArgumentParser(description="Runs the program on generated tickets and checks every answer.")
-    parser.add_argument("--program", default="target/bin/route")
+    parser.add_argument("--program", default="crates/route_tickets/out/route_tickets")
     parser.add_argument("--count", type=int, default=5000, help="how many tickets")
     parser.add_argument("--seed", type=int, default=1)
     parser.add_argument("--only", type=int, metavar="INDEX", help="one ticket")

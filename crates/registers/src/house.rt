@@ -15,9 +15,22 @@ const NO: i32 = i32::MIN;
 
 // Lines of delay, row by row: a row for each format as `from`, a column for each as `to`.
 const HOUSE: [i32; 64] = [
-    NO, 4, 1, 5, NO, NO, 4, NO, -1, NO, NO, NO, NO, 2, 1, NO, 1, NO, NO, NO, NO, NO, NO, NO, -1,
-    NO, NO, NO, 2, 2, NO, NO, NO, NO, NO, -1, NO, NO, NO, NO, NO, 0, NO, 1, NO, NO, NO, NO, 2, NO,
-    NO, NO, NO, NO, NO, 0, NO, NO, NO, NO, 7, NO, 0, NO,
+    // from 0
+    NO, 4, 1, 5, NO, NO, 4, NO,
+    // from 1
+    -1, NO, NO, NO, NO, 2, 1, NO,
+    // from 2
+    1, NO, NO, NO, NO, NO, NO, NO,
+    // from 3
+    -1, NO, NO, NO, 2, 2, NO, NO,
+    // from 4
+    NO, NO, NO, -1, NO, NO, NO, NO,
+    // from 5
+    NO, 0, NO, 1, NO, NO, NO, NO,
+    // from 6
+    2, NO, NO, NO, NO, NO, NO, 0,
+    // from 7
+    NO, NO, NO, NO, 7, NO, 0, NO,
 ];
 
 // The house table as a register: every pair is sealed.
