@@ -1,6 +1,6 @@
 -- Each turn reads a byte at least.
 use Rattle.std.proofs.Common.{◌-◌, ◌≤◌}
-use Rattle.route.proofs.fill.Given as goal
+use Rattle.route_tickets.proofs.fill.Given as goal
 
 abbrev pub invariant-loop-length : goal.invariant-loop-length
 invariant-loop-length l = l.length ≤ l.end
