@@ -6,7 +6,7 @@ ghost use Rattle.registers.specs.House.{house, house_cards, number, delayed};
 
 use crate::judge::judge_ends;
 use crate::{Format, Register, RegisterFault};
-use costs::{Cost, Cost as _, Delay};
+use costs::{Cost, Delay};
 
 const HOUSE_SIZE: usize = 8;
 
@@ -14,22 +14,15 @@ const HOUSE_SIZE: usize = 8;
 const NO: i32 = i32::MIN;
 
 // Lines of delay, row by row: a row for each format as `from`, a column for each as `to`.
+#[rattlefmt::skip]
 const HOUSE: [i32; 64] = [
-    // from 0
     NO, 4, 1, 5, NO, NO, 4, NO,
-    // from 1
     -1, NO, NO, NO, NO, 2, 1, NO,
-    // from 2
     1, NO, NO, NO, NO, NO, NO, NO,
-    // from 3
     -1, NO, NO, NO, 2, 2, NO, NO,
-    // from 4
     NO, NO, NO, -1, NO, NO, NO, NO,
-    // from 5
     NO, 0, NO, 1, NO, NO, NO, NO,
-    // from 6
     2, NO, NO, NO, NO, NO, NO, 0,
-    // from 7
     NO, NO, NO, NO, 7, NO, 0, NO,
 ];
 

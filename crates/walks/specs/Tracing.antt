@@ -1,4 +1,4 @@
--- LeastCost chains that are read from a table of next formats, and the tree of tight cards that the table is made of.
+-- Least-cost chains that are read from a table of next formats, and the tree of tight cards that the table is made of.
 -- `ticked` says who is in the tree, by format, and `next` the next format of each one that is.
 use Rattle.std.specs.Prelude.{◌≡◌, ℕ, ◌<◌, ◌≤◌, Bool, true, false, cond, List, [], ◌∷◌, length, get_or, take, Some, None, Option, MatchOption, ◌==◌, ◌≢◌, nat_lt, slice_index, slice_index_or}
 use Rattle.costs.specs.Algebra.{Algebra}
