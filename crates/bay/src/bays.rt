@@ -12,10 +12,9 @@ ghost use Rattle.bay.specs.Runs.{RunLaw};
 ghost use Rattle.bay.specs.declared.calls.Call.TheVariants.{Enter, Withdraw, Book, Strike};
 
 use crate::fault::BayFault;
-use crate::judge::judge_ends;
 use crate::legs::{Leg, Legs, MOST_LEGS, Note};
 use costs::Cost;
-use registers::{Format, Register};
+use registers::{Format, Register, judge_ends};
 
 // A bay over any register.
 #[derive(Drop)]

@@ -1,8 +1,10 @@
 // Why a bay refuses a call.
 ghost use Rattle.std.specs.Prelude.{◌≡◌};
+ghost use Rattle.registers.specs.Ends.{ends_code};
+ghost use Rattle.registers.specs.declared.fault.Layer.TheVariants.{Bay as BayLayer};
 ghost use Rattle.bay.specs.Faults.{bay_code, carried};
 
-use registers::{Code, Layer, RegisterFault};
+use registers::{Code, EndsFault, Layer, RegisterFault};
 
 #[derive(Clone, Copy, Debug, PartialEq, Eq)]
 pub enum BayFault {
@@ -52,5 +54,17 @@ impl From<RegisterFault> for BayFault {
 
     fn from(fault: RegisterFault) -> BayFault {
         BayFault::Register(fault)
+    }
+}
+
+impl From<EndsFault> for BayFault {
+    ghost from_gives = { λ f r. bay_code r ≡ ends_code BayLayer f };
+
+    fn from(fault: EndsFault) -> BayFault {
+        match fault {
+            EndsFault::FromOutside => BayFault::FromOutside,
+            EndsFault::ToOutside => BayFault::ToOutside,
+            EndsFault::SameEnds => BayFault::SameEnds,
+        }
     }
 }

@@ -1,18 +1,27 @@
 -- A list: what its first entries give, where a card can be written, and how many entries give one.
-use Rattle.std.proofs.Common.{◌≡◌, ℕ, zero, suc, ◌+◌, ◌-◌, ◌*◌, ◌<◌, ◌≤◌, Bool, true, false, cond, not, ◌&&◌, eqb, ◌≢◌, List, [], ◌∷◌, ◌++◌, length, get_or, take, drop, set, replicate, is_some, IfSome, Some, None, Option, sym, refl, ap, ◌∙◌, subst, append_assoc, append-nil, add-one, arith, MatchOption}
+use Rattle.std.proofs.Common.{◌≡◌, ℕ, zero, suc, ◌+◌, ◌-◌, ◌*◌, ◌<◌, ◌≤◌, Bool, true, false, cond, not, ◌&&◌, eqb, ltb, position, ◌≢◌, List, [], ◌∷◌, ◌++◌, length, get_or, take, drop, set, replicate, is_some, IfSome, Some, None, Option, sym, refl, ap, ◌∙◌, subst, append_assoc, append-nil, add-one, one-add, arith, MatchOption}
 use mathlib.Core.Path.{fun_ext}
 use Rattle.std.specs.Option.{option_map}
-use Rattle.std.proofs.lemmas.List.{length-set, length-map, length-replicate, length-drop, length-take-le, get_or_read, get_or-set_same, get_or-set_other, take-append-drop, take_more, drop_more, set_split}
-use Rattle.std.proofs.lemmas.Bool.{and_parts, and_from, both_ways, false≢true, eqb-true, eq-eqb}
+use Rattle.std.specs.List.{position_or_len}
+use Rattle.std.proofs.lemmas.List.{take_all, length-set, length-map, length-replicate, length-drop, length-take-le, get_or_read, get_or-set_same, get_or-set_other, take-append-drop, take_more, drop_more, set_split}
+use Rattle.std.proofs.lemmas.List.Sums.{passes_at_first}
+use Rattle.std.proofs.lemmas.Option.{MatchOption-at_none}
+use Rattle.std.proofs.lemmas.Bool.{and_parts, and_from, both_ways, false≢true, ltb-true, ltb-false, eqb-true, eq-eqb}
 use Rattle.lent.specs.declared.list.Entry.{Entry}
 use Rattle.registers.specs.Fault.{first_cause, code}
 use Rattle.registers.specs.declared.fault.Layer.TheVariants.{Register}
-use Rattle.registers.specs.Meaning.{meant, put, standing, entered, withdrawn, end_causes, enter_causes, withdraw_causes}
-use Rattle.lent.specs.Lent.{size_fits, nearest_size, possible, how_many, begun}
-use Rattle.lent.specs.List.{or_else, live, cost_of, cost_for, first_cost, entries_fit, list_fits, list_card, listed, list_cleared, without, Free, Found, Writable, Full}
-use Rattle.registers.proofs.Meanings.{same_meaning, possible_ends, good_ends, is_some_mapped, standing_is, stands, enter_granted, enter_full, enter_after, withdraw_granted, withdraw_after}
+use Rattle.registers.specs.Meaning.{meant, possible, put, standing, entered, withdrawn, enter_causes, withdraw_causes}
+use Rattle.lent.specs.Lent.{size_fits, nearest_size, how_many, begun}
+use Rattle.lent.specs.List.{or_else, live, cost_of, cost_for, first_cost, entries_fit, list_fits, list_card, listed, list_cleared, without, Free, Writable, Full}
+use Rattle.registers.proofs.Meanings.{same_meaning, possible_parts, possible_ends, is_some_mapped, standing_is, stands, enter_granted, enter_full, enter_after, withdraw_granted, withdraw_after}
 use Rattle.lent.proofs.Totals.{bit, how_many_put, how_many_none}
-use Rattle.lent.proofs.Matrices.{fitting_size, nearest_fitting, possible_parts, place_row, place_column}
+use Rattle.lent.proofs.Matrices.{fitting_size, nearest_fitting, place_row, place_column}
+
+-- the entry at i is the first for the pair
+pub record Found {C : Type 0} (admits : C → Bool) (n : ℕ) (es : List (Option (Entry C))) (a b i : ℕ) : Type 0 where
+  pub within : i < length es
+  pub none_before : first_cost admits n (take i es) a b ≡ None
+  pub is_for : is_some (cost_for admits n (get_or es i None) a b) ≡ true
 
 -- options
 none_or : {X : Type 0} (o : Option X) → or_else o None ≡ o
@@ -208,6 +217,26 @@ module _ {C : Type 0} (admits : C → Bool) (n : ℕ) where
   found_cost es a b i f =
       first_split es i f.within a b ∙ ap (λ o. or_else o (or_else (cost_for admits n (get_or es i None) a b) (first_cost admits n (drop (i + 1) es) a b))) f.none_before ∙ some_or (cost_for admits n (get_or es i None) a b) _ f.is_for
 
+  -- where a pair's first entry lies
+  module _ (a b : ℕ) where
+    abbrev is_for : Option (Entry C) → Bool
+    is_for e = is_some (cost_for admits n e a b)
+
+    none_so_far : (es : List (Option (Entry C))) → first_cost admits n (take (position_or_len is_for es) es) a b ≡ None
+    none_so_far [] = refl
+    none_so_far (e ∷ es) = by_test (is_for e) refl (none_so_far es)
+      where
+        by_test : (t : Bool) → is_for e ≡ t → first_cost admits n (take (position_or_len is_for es) es) a b ≡ None → first_cost admits n (take (cond (not t) (1 + position_or_len is_for es) 0) (e ∷ es)) a b ≡ None
+        by_test true h rest = refl
+        by_test false h rest = rw one-add (ap (λ o. or_else o (first_cost admits n (take (position_or_len is_for es) es) a b)) (no_some (cost_for admits n e a b) h) ∙ rest)
+
+    pub found_at : (es : List (Option (Entry C))) → MatchOption (position is_for es) (first_cost admits n es a b ≡ None) (Found admits n es a b)
+    found_at es = by_test (ltb (position_or_len is_for es) (length es)) refl
+      where
+        by_test : (t : Bool) → ltb (position_or_len is_for es) (length es) ≡ t → MatchOption (cond t (Some (position_or_len is_for es)) None) (first_cost admits n es a b ≡ None) (Found admits n es a b)
+        by_test true h = let within = ltb-true _ _ h in record { within = within; none_before = none_so_far es; is_for = passes_at_first is_for es None within }
+        by_test false h = ap (λ l. first_cost admits n l a b) (sym (take_all (position_or_len is_for es) es (ltb-false _ _ h))) ∙ none_so_far es
+
   -- the entry found for a pair, or a free one, can be written
   pub found_writable : (es : List (Option (Entry C))) (a b i : ℕ) → Found admits n es a b i → Writable admits n es a b i
   found_writable es a b i f = record {
@@ -229,21 +258,23 @@ module _ {C : Type 0} (admits : C → Bool) (n : ℕ) where
   found_read es a b i x f read = sym (found_cost es a b i f ∙ ap (λ y. cost_for admits n y a b) (sym (get_or_read es i x f.within read None)))
 
   -- where the card goes, from what the two searches answer
-  module _ (es : List (Option (Entry C))) (a b : ℕ) (found : Option ℕ) where
-    pub some_found : is_some found ≡ true → MatchOption found (first_cost admits n es a b ≡ None) (Found admits n es a b) → MatchOption found (Full admits n es a b) (Writable admits n es a b)
-    some_found = by_found found
+  module _ (es : List (Option (Entry C))) (a b : ℕ) (found : Option ℕ) (is : found ≡ position (is_for a b) es) where
+    pub some_found : is_some found ≡ true → MatchOption found (Full admits n es a b) (Writable admits n es a b)
+    some_found e = by_found found e (subst (λ o. MatchOption o (first_cost admits n es a b ≡ None) (Found admits n es a b)) (sym is) (found_at a b es))
       where
         by_found : (o : Option ℕ) → is_some o ≡ true → MatchOption o (first_cost admits n es a b ≡ None) (Found admits n es a b) → MatchOption o (Full admits n es a b) (Writable admits n es a b)
         by_found None e f = absurd (false≢true e)
         by_found (Some i) e f = found_writable es a b i f
 
-    pub none_found : (free : Option ℕ) → is_some found ≡ false → MatchOption found (first_cost admits n es a b ≡ None) (Found admits n es a b) → MatchOption free (how_many n (first_cost admits n es) ≡ length es) (λ i. (i < length es) × Free admits n es i) → MatchOption free (Full admits n es a b) (Writable admits n es a b)
-    none_found = by_both found
+    pub none_found : (free : Option ℕ) → is_some found ≡ false → MatchOption free (how_many n (first_cost admits n es) ≡ length es) (λ i. (i < length es) × Free admits n es i) → MatchOption free (Full admits n es a b) (Writable admits n es a b)
+    none_found free e = by_free free
       where
-        by_both : (o p : Option ℕ) → is_some o ≡ false → MatchOption o (first_cost admits n es a b ≡ None) (Found admits n es a b) → MatchOption p (how_many n (first_cost admits n es) ≡ length es) (λ i. (i < length es) × Free admits n es i) → MatchOption p (Full admits n es a b) (Writable admits n es a b)
-        by_both (Some i) p e f h = absurd (false≢true (sym e))
-        by_both None None e f h = record { new = f; used = h }
-        by_both None (Some i) e f h = free_writable es a b i f h.0 h.1
+        new : first_cost admits n es a b ≡ None
+        new = MatchOption-at_none _ _ (sym is ∙ no_some found e) (found_at a b es)
+
+        by_free : (p : Option ℕ) → MatchOption p (how_many n (first_cost admits n es) ≡ length es) (λ i. (i < length es) × Free admits n es i) → MatchOption p (Full admits n es a b) (Writable admits n es a b)
+        by_free None h = record { new = new; used = h }
+        by_free (Some i) h = free_writable es a b i new h.0 h.1
 
   -- steps of the loops
   pub none_more : (es : List (Option (Entry C))) (i a b : ℕ) (x : Option (Entry C)) → i < length es → x ≡ get_or es i x → first_cost admits n (take i es) a b ≡ None → false ≡ is_some (cost_for admits n x a b) → first_cost admits n (take (i + 1) es) a b ≡ None
@@ -306,14 +337,14 @@ module _ {C : Type 0} (admits : C → Bool) (n : ℕ) where
     list_free = rw (← fits)
 
 -- calls, from what they find
-module _ {C V : Type 0} (v : C → V) (admits : C → Bool) (n : ℕ) (es : List (Option (Entry C))) (a b k : ℕ) (size : k ≡ nearest_size n) (judged : None ≡ first_cause (end_causes Register k a b)) (fits : true ≡ list_fits n (length es)) where
-  ends : None ≡ first_cause (end_causes Register (nearest_size n) a b)
-  ends = subst (λ j. None ≡ first_cause (end_causes Register j a b)) size judged
+module _ {C V : Type 0} (v : C → V) (admits : C → Bool) (n : ℕ) (es : List (Option (Entry C))) (a b k : ℕ) (size : k ≡ nearest_size n) (judged : true ≡ possible k a b) (fits : true ≡ list_fits n (length es)) where
+  ends : possible (nearest_size n) a b ≡ true
+  ends = sym (judged ∙ ap (λ j. possible j a b) size)
 
   good : (a < n) × (b < n) × (a ≡ b → ⊥)
   good =
       let fitting = nearest_fitting n (and_parts (size_fits n) (entries_fit (length es)) (sym fits)).0 in
-      good_ends n a b (subst (λ j. first_cause (end_causes Register j a b) ≡ None) fitting (sym ends))
+      possible_parts n a b (sym (ap (λ j. possible j a b) fitting) ∙ ends)
 
   pub few_formats : n ≤ 64
   few_formats = (fitting_size n (and_parts (size_fits n) (entries_fit (length es)) (sym fits)).0).1
@@ -353,37 +384,37 @@ module _ {C V : Type 0} (v : C → V) (admits : C → Bool) (n : ℕ) (es : List
   module _ (cost : C) (admitted : true ≡ admits cost) where
     pub list_full_answer : Full admits n es a b → Some (code Register 23 0) ≡ first_cause (enter_causes (meant v (listed admits n es)) a b (admits cost))
     list_full_answer f =
-        rw (← admitted) (enter_full v (listed admits n es) (listed admits n es) a b (sym ends) unsealed (ap is_some (list_card_is admits n es fits a b ∙ f.new)) (omega (arith, list_free admits n es fits, list_count admits n es fits, f.used)))
+        rw (← admitted) (enter_full v (listed admits n es) (listed admits n es) a b ends unsealed (ap is_some (list_card_is admits n es fits a b ∙ f.new)) (omega (arith, list_free admits n es fits, list_count admits n es fits, f.used)))
 
     module _ (i : ℕ) (w : Writable admits n es a b i) where
       pub list_enter_answer : None ≡ first_cause (enter_causes (meant v (listed admits n es)) a b (admits cost))
       list_enter_answer =
-          rw (← admitted) (enter_granted v (listed admits n es) (listed admits n es) a b (sym ends) unsealed (λ new none. omega (arith, list_free admits n es fits, list_count admits n es fits, w.room (ap is_some (sym (list_card_is admits n es fits a b)) ∙ new))))
+          rw (← admitted) (enter_granted v (listed admits n es) (listed admits n es) a b ends unsealed (λ new none. omega (arith, list_free admits n es fits, list_count admits n es fits, w.room (ap is_some (sym (list_card_is admits n es fits a b)) ∙ new))))
 
       pub list_enter_after : meant v (listed admits n (set es i (Some (record { from = a; to = b; cost = cost })))) ≡ entered (meant v (listed admits n es)) a b (v cost)
       list_enter_after =
           let next = set es i (Some (record { from = a; to = b; cost = cost })) in
           let long = length-set es i (Some (record { from = a; to = b; cost = cost })) in
           let is = first_written admits n es a b i w cost (possible_ends n a b good.0 good.1 good.2) (sym admitted) in
-          enter_after v (listed admits n es) (listed admits n next) a b (sym ends) cost refl (next_cards next long (Some cost) is) (next_sealed next long (Some cost) is) (next_entered next long (Some cost) is refl)
+          enter_after v (listed admits n es) (listed admits n next) a b ends cost refl (next_cards next long (Some cost) is) (next_sealed next long (Some cost) is) (next_entered next long (Some cost) is refl)
 
   module _ (r : Option C) (value : option_map v r ≡ standing (meant v (listed admits n es)) a b) (had : is_some r ≡ true) where
     stood : is_some (list_card admits n es a b) ≡ true
-    stood = sym (stands v (listed admits n es) (listed admits n es) a b (sym ends)) ∙ sym (ap is_some value) ∙ is_some_mapped v r ∙ had
+    stood = sym (stands v (listed admits n es) (listed admits n es) a b ends) ∙ sym (ap is_some value) ∙ is_some_mapped v r ∙ had
 
     pub list_withdraw_answer : None ≡ first_cause (withdraw_causes (meant v (listed admits n es)) a b)
-    list_withdraw_answer = withdraw_granted v (listed admits n es) (listed admits n es) a b (sym ends) unsealed stood
+    list_withdraw_answer = withdraw_granted v (listed admits n es) (listed admits n es) a b ends unsealed stood
 
     pub list_withdraw_after : meant v (listed admits n (without admits n a b es)) ≡ withdrawn (meant v (listed admits n es)) a b
     list_withdraw_after =
         let next = without admits n a b es in
         let long = length-map es (λ e. cond (is_some (cost_for admits n e a b)) None e) in
         let is = first_without admits n a b es in
-        withdraw_after v (listed admits n es) (listed admits n next) a b (sym ends) refl (next_cards next long None is) (next_sealed next long None is) (next_withdrawn next long None is refl stood)
+        withdraw_after v (listed admits n es) (listed admits n next) a b ends refl (next_cards next long None is) (next_sealed next long None is) (next_withdrawn next long None is refl stood)
 
   pub list_card_value : (r : Option C) → r ≡ first_cost admits n es a b → option_map v r ≡ standing (meant v (listed admits n es)) a b
   list_card_value r is =
-      sym (standing_is v (listed admits n es) (listed admits n es) a b (sym ends) ∙ ap (option_map v) (list_card_is admits n es fits a b ∙ sym is))
+      sym (standing_is v (listed admits n es) (listed admits n es) a b ends ∙ ap (option_map v) (list_card_is admits n es fits a b ∙ sym is))
 
 -- a list in cleared memory
 pub list_begins : {C : Type 0} (admits : C → Bool) (n : ℕ) (es : List (Option (Entry C))) → listed admits n (list_cleared n es) ≡ begun n (list_fits n (length es)) (length es)

@@ -1,16 +1,15 @@
 -- A matrix: each pair has a place of its own, so a write there changes the card of that pair and of no other.
-use Rattle.std.proofs.Common.{◌≡◌, ℕ, ◌+◌, ◌-◌, ◌*◌, ◌/◌, ◌%◌, ◌<◌, ◌≤◌, Bool, true, false, cond, not, ◌&&◌, eqb, ltb, leb, ◌≢◌, List, ◌++◌, length, get_or, drop, set, replicate, is_some, Some, None, Option, sym, refl, ap, ◌∙◌, subst, arith}
+use Rattle.std.proofs.Common.{◌≡◌, ℕ, ◌+◌, ◌-◌, ◌*◌, ◌/◌, ◌%◌, ◌<◌, ◌≤◌, Bool, true, false, cond, not, ◌&&◌, eqb, ltb, leb, ◌≢◌, List, ◌++◌, length, get_or, take, drop, set, replicate, is_some, Some, None, Option, sym, refl, ap, ◌∙◌, arith}
 use mathlib.Core.Path.{fun_ext}
 use Rattle.std.specs.Option.{option_map}
 use Rattle.std.proofs.lemmas.Nat.{mul-add-lt, div-mul-add, mod-mul-add}
-use Rattle.std.proofs.lemmas.List.{length-set, length-append, length-drop, length-replicate, get_or-set_same, get_or-set_other, get_or_append_left, get_or-replicate}
-use Rattle.std.proofs.lemmas.Bool.{and_parts, and_from, both_ways, not-true, eqb-true, eqb-false, leb-true, ltb-true, eq-eqb}
+use Rattle.std.proofs.lemmas.List.{length-set, length-take-le, length-append, length-drop, length-replicate, get_or-set_same, get_or-set_other, get_or_append_left, get_or-replicate}
+use Rattle.std.proofs.lemmas.Bool.{and_parts, and_from, both_ways, cond-true, eqb-true, leb-true, eq-eqb}
 use Rattle.registers.specs.Fault.{first_cause}
-use Rattle.registers.specs.declared.fault.Layer.TheVariants.{Register}
-use Rattle.registers.specs.Meaning.{meant, put, standing, entered, withdrawn, end_causes, enter_causes, withdraw_causes}
-use Rattle.lent.specs.Lent.{size_fits, nearest_size, possible, how_many, begun, readable}
+use Rattle.registers.specs.Meaning.{meant, possible, put, standing, entered, withdrawn, enter_causes, withdraw_causes}
+use Rattle.lent.specs.Lent.{size_fits, nearest_size, how_many, begun, readable}
 use Rattle.lent.specs.Matrix.{matrix_fits, matrix_card, matrix, matrix_cleared}
-use Rattle.registers.proofs.Meanings.{same_meaning, possible_ends, good_ends, is_some_mapped, stands, enter_granted, enter_after, withdraw_granted, withdraw_after}
+use Rattle.registers.proofs.Meanings.{same_meaning, possible_parts, possible_ends, is_some_mapped, stands, enter_granted, enter_after, withdraw_granted, withdraw_after}
 use Rattle.lent.proofs.Totals.{bit, how_many_put, how_many_bound, how_many_none}
 
 pub fitting_size : (n : ℕ) → size_fits n ≡ true → (2 ≤ n) × (n ≤ 64)
@@ -18,12 +17,6 @@ fitting_size n e = let h = and_parts (leb 2 n) (leb n 64) e in (leb-true 2 n h.0
 
 pub nearest_fitting : (n : ℕ) → size_fits n ≡ true → nearest_size n ≡ n
 nearest_fitting n e = let h = fitting_size n e in omega arith
-
-pub possible_parts : (n a b : ℕ) → possible n a b ≡ true → (a < n) × (b < n) × (a ≡ b → ⊥)
-possible_parts n a b e =
-    let x = and_parts (ltb a n) (ltb b n && not (eqb a b)) e in
-    let y = and_parts (ltb b n) (not (eqb a b)) x.1 in
-    (ltb-true a n x.0, ltb-true b n y.0, eqb-false a b (not-true (eqb a b) y.1))
 
 -- the place of a pair
 pub place_below : (n a b p : ℕ) → a < n → b < n → n * n ≤ p → a * n + b < p
@@ -135,6 +128,12 @@ length_cleared {C = C} n places = by_test (matrix_fits n (length places)) refl
         simp (length-append, length-replicate, length-drop) (omega arith)
     by_test false e = refl
 
+pub filled_front : {C : Type 0} (n : ℕ) (places front : List (Option C)) → true ≡ matrix_fits n (length places) → front ≡ replicate (length (take (n * n) places)) None → front ++ drop (n * n) places ≡ matrix_cleared n places
+filled_front n places front fits is =
+    let h = and_parts (size_fits n) (leb (n * n) (length places)) (sym fits) in
+    let long = length-take-le (n * n) places (leb-true (n * n) (length places) h.1) in
+    ap (λ l. l ++ drop (n * n) places) (is ∙ ap (λ k. replicate k None) long) ∙ sym (cond-true _ _ _ (sym fits))
+
 pub cleared_begins : {C : Type 0} (admits : C → Bool) (n : ℕ) (places : List (Option C)) → matrix admits n (matrix_cleared n places) ≡ begun n (matrix_fits n (length places)) (n * (n - 1))
 cleared_begins {C = C} admits n places =
     let few : n * (n - 1) - how_many n (matrix_card admits n (matrix_cleared n places)) ≡ n * (n - 1) = omega (arith, how_many_none n (matrix_card admits n (matrix_cleared n places)) (no_card (matrix_fits n (length places)) refl)) in
@@ -156,14 +155,14 @@ cleared_begins {C = C} admits n places =
             card_at admits n (matrix_cleared n places) (same ∙ e) a b p ∙ ap (λ l. readable admits (get_or l (a * n + b) None)) is ∙ ap (readable admits) (get_or_append_left (replicate (n * n) None) (drop (n * n) places) None (a * n + b) (rw length-replicate below) ∙ get_or-replicate (n * n) (a * n + b) None None below)
 
 -- granted calls, from what they find
-module _ {C V : Type 0} (v : C → V) (admits : C → Bool) (n : ℕ) (places : List (Option C)) (a b k : ℕ) (size : k ≡ nearest_size n) (judged : None ≡ first_cause (end_causes Register k a b)) (fits : true ≡ matrix_fits n (length places)) where
-  ends : None ≡ first_cause (end_causes Register (nearest_size n) a b)
-  ends = subst (λ j. None ≡ first_cause (end_causes Register j a b)) size judged
+module _ {C V : Type 0} (v : C → V) (admits : C → Bool) (n : ℕ) (places : List (Option C)) (a b k : ℕ) (size : k ≡ nearest_size n) (judged : true ≡ possible k a b) (fits : true ≡ matrix_fits n (length places)) where
+  ends : possible (nearest_size n) a b ≡ true
+  ends = sym (judged ∙ ap (λ j. possible j a b) size)
 
   good : (a < n) × (b < n) × (a ≡ b → ⊥)
   good =
       let fitting = nearest_fitting n (and_parts (size_fits n) (leb (n * n) (length places)) (sym fits)).0 in
-      good_ends n a b (subst (λ k. first_cause (end_causes Register k a b) ≡ None) fitting (sym ends))
+      possible_parts n a b (sym (ap (λ j. possible j a b) fitting) ∙ ends)
 
   pub pair_below : a * n + b < length places
   pair_below = place_below n a b (length places) good.0 good.1 (sizes admits n places (sym fits)).2
@@ -177,25 +176,25 @@ module _ {C V : Type 0} (v : C → V) (admits : C → Bool) (n : ℕ) (places : 
 
     pub matrix_enter_answer : None ≡ first_cause (enter_causes (meant v (matrix admits n places)) a b (admits cost))
     matrix_enter_answer =
-        rw (← admitted) (enter_granted v (matrix admits n places) (matrix admits n places) a b (sym ends) unsealed (room admits n places (sym fits) a b good.0 good.1 good.2 (Some cost) (ap is_some reads)))
+        rw (← admitted) (enter_granted v (matrix admits n places) (matrix admits n places) a b ends unsealed (room admits n places (sym fits) a b good.0 good.1 good.2 (Some cost) (ap is_some reads)))
 
     pub matrix_enter_after : meant v (matrix admits n (set places (a * n + b) (Some cost))) ≡ entered (meant v (matrix admits n places)) a b (v cost)
     matrix_enter_after =
-        enter_after v (matrix admits n places) (matrix admits n (set places (a * n + b) (Some cost))) a b (sym ends) cost refl
+        enter_after v (matrix admits n places) (matrix admits n (set places (a * n + b) (Some cost))) a b ends cost refl
         (λ c d. card_set admits n places (sym fits) a b good.0 good.1 good.2 (Some cost) c d ∙ ap (λ o. put (matrix_card admits n places) a b o c d) reads)
         (λ c d. ap (λ k. not (matrix_fits n k)) (length-set places (a * n + b) (Some cost)))
         (entered_free admits n places (sym fits) a b good.0 good.1 good.2 (Some cost) (ap is_some reads))
 
   module _ (r : Option C) (is : option_map v r ≡ standing (meant v (matrix admits n places)) a b) (had : is_some r ≡ true) where
     stood : is_some (matrix_card admits n places a b) ≡ true
-    stood = sym (stands v (matrix admits n places) (matrix admits n places) a b (sym ends)) ∙ sym (ap is_some is) ∙ is_some_mapped v r ∙ had
+    stood = sym (stands v (matrix admits n places) (matrix admits n places) a b ends) ∙ sym (ap is_some is) ∙ is_some_mapped v r ∙ had
 
     pub matrix_withdraw_answer : None ≡ first_cause (withdraw_causes (meant v (matrix admits n places)) a b)
-    matrix_withdraw_answer = withdraw_granted v (matrix admits n places) (matrix admits n places) a b (sym ends) unsealed stood
+    matrix_withdraw_answer = withdraw_granted v (matrix admits n places) (matrix admits n places) a b ends unsealed stood
 
     pub matrix_withdraw_after : meant v (matrix admits n (set places (a * n + b) None)) ≡ withdrawn (meant v (matrix admits n places)) a b
     matrix_withdraw_after =
-        withdraw_after v (matrix admits n places) (matrix admits n (set places (a * n + b) None)) a b (sym ends) refl
+        withdraw_after v (matrix admits n places) (matrix admits n (set places (a * n + b) None)) a b ends refl
         (card_set admits n places (sym fits) a b good.0 good.1 good.2 None)
         (λ c d. ap (λ k. not (matrix_fits n k)) (length-set places (a * n + b) None))
         (withdrawn_free admits n places (sym fits) a b good.0 good.1 good.2 None refl stood)

@@ -1,6 +1,9 @@
 -- What the registers in lent memory share: which sizes will do, how they begin, and how many cards stand.
-use Rattle.std.specs.Prelude.{ℕ, zero, suc, ◌+◌, min, max, Bool, cond, not, ◌&&◌, is_some, Some, None, Option, ◌==◌, nat_le, nat_lt}
+use Rattle.std.specs.Prelude.{ℕ, zero, suc, ◌+◌, min, max, Bool, cond, not, ◌&&◌, List, [], ◌∷◌, is_some, Some, None, Option, nat_le}
 use Rattle.costs.specs.Algebra.{Algebra}
+use Rattle.registers.specs.Fault.{code}
+use Rattle.registers.specs.declared.fault.Code.{Code}
+use Rattle.registers.specs.declared.fault.Layer.TheVariants.{Register}
 use Rattle.registers.specs.Meaning.{Meaning, most_formats}
 
 -- whether a card may have a held cost, by what the cost means
@@ -15,9 +18,9 @@ size_fits n = nat_le 2 n && nat_le n most_formats
 abbrev pub nearest_size : ℕ → ℕ
 nearest_size n = max 2 (min n most_formats)
 
--- two different formats of n
-abbrev pub possible : ℕ → ℕ → ℕ → Bool
-possible n a b = nat_lt a n && (nat_lt b n && not (a == b))
+-- why the check before the making refuses, in order: the size, the memory
+abbrev pub memory_causes : ℕ → Bool → List (Bool × Code)
+memory_causes n fits = (not (size_fits n), code Register 16 0) ∷ (not fits, code Register 16 1) ∷ []
 
 -- f 0 + … + f (n - 1)
 abbrev pub total : ℕ → (ℕ → ℕ) → ℕ

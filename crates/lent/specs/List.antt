@@ -2,13 +2,11 @@
 -- an entry that gives no pair its card is free.
 use Rattle.std.specs.Prelude.{◌≡◌, ℕ, ◌-◌, ◌*◌, ◌<◌, Bool, true, false, cond, not, ◌&&◌, List, [], ◌∷◌, map, length, take, replicate, is_some, Some, None, Option, ◌==◌, nat_le, slice_index_or}
 use Rattle.costs.specs.Algebra.{Algebra}
-use Rattle.registers.specs.Fault.{code}
 use Rattle.registers.specs.declared.fault.Code.{Code}
-use Rattle.registers.specs.declared.fault.Layer.TheVariants.{Register}
 use Rattle.lent.specs.declared.list.Entry.{Entry}
 use Rattle.lent.specs.declared.list.List.{List as ListRegister}
-use Rattle.registers.specs.Meaning.{Meaning, meant, most_formats}
-use Rattle.lent.specs.Lent.{admitted_by, size_fits, nearest_size, possible, how_many}
+use Rattle.registers.specs.Meaning.{Meaning, meant, most_formats, possible}
+use Rattle.lent.specs.Lent.{admitted_by, size_fits, nearest_size, memory_causes, how_many}
 
 -- as many entries as a register of the most formats has pairs
 abbrev pub most_entries : ℕ
@@ -22,9 +20,9 @@ entries_fit entries = nat_le 1 entries && nat_le entries most_entries
 abbrev pub list_fits : ℕ → ℕ → Bool
 list_fits n entries = size_fits n && entries_fit entries
 
--- why the check before the making refuses, in order: the size, the memory
+-- why the check before the making refuses
 abbrev pub list_causes : ℕ → ℕ → List (Bool × Code)
-list_causes n entries = (not (size_fits n), code Register 16 0) ∷ (not (entries_fit entries), code Register 16 1) ∷ []
+list_causes n entries = memory_causes n (entries_fit entries)
 
 -- the first of two that is there
 abbrev pub or_else : {X : Type 0} → Option X → Option X → Option X
@@ -80,12 +78,6 @@ module _ {C : Type 0} (admits : C → Bool) (n : ℕ) (es : List (Option (Entry 
   -- the entry at i gives no pair its card
   abbrev pub Free : ℕ → Type 0
   Free i = (a b : ℕ) → is_some (cost_for admits n (slice_index_or es i None) a b) ≡ true → is_some (first_cost admits n (take i es) a b) ≡ true
-
-  -- the entry at i is the first for the pair
-  pub record Found (a b i : ℕ) : Type 0 where
-    pub within : i < length es
-    pub none_before : first_cost admits n (take i es) a b ≡ None
-    pub is_for : is_some (cost_for admits n (slice_index_or es i None) a b) ≡ true
 
   -- a card of the pair at i hides no other pair's card, and a new one finds a free place
   pub record Writable (a b i : ℕ) : Type 0 where

@@ -1,20 +1,18 @@
 -- The matrix: a place for each pair of n formats, row by row, with a row for each format as `from`.
-use Rattle.std.specs.Prelude.{ℕ, ◌+◌, ◌-◌, ◌*◌, Bool, cond, not, ◌&&◌, List, [], ◌∷◌, ◌++◌, length, drop, replicate, None, Option, nat_le, slice_index_or}
+use Rattle.std.specs.Prelude.{ℕ, ◌+◌, ◌-◌, ◌*◌, Bool, cond, not, ◌&&◌, List, ◌++◌, length, drop, replicate, None, Option, nat_le, slice_index_or}
 use Rattle.costs.specs.Algebra.{Algebra}
-use Rattle.registers.specs.Fault.{code}
 use Rattle.registers.specs.declared.fault.Code.{Code}
-use Rattle.registers.specs.declared.fault.Layer.TheVariants.{Register}
 use Rattle.lent.specs.declared.matrix.Matrix.{Matrix}
-use Rattle.registers.specs.Meaning.{Meaning, meant}
-use Rattle.lent.specs.Lent.{admitted_by, size_fits, nearest_size, possible, how_many, readable}
+use Rattle.registers.specs.Meaning.{Meaning, meant, possible}
+use Rattle.lent.specs.Lent.{admitted_by, size_fits, nearest_size, memory_causes, how_many, readable}
 
 -- so many places will do for n formats
 abbrev pub matrix_fits : ℕ → ℕ → Bool
 matrix_fits n places = size_fits n && nat_le (n * n) places
 
--- why the check before the making refuses, in order: the size, the memory
+-- why the check before the making refuses
 abbrev pub matrix_causes : ℕ → ℕ → List (Bool × Code)
-matrix_causes n places = (not (size_fits n), code Register 16 0) ∷ (not (nat_le (n * n) places), code Register 16 1) ∷ []
+matrix_causes n places = memory_causes n (nat_le (n * n) places)
 
 module _ {C : Type 0} (admits : C → Bool) where
   -- the card of a pair, at its place

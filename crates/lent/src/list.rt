@@ -1,13 +1,13 @@
 // The list: a register that takes an entry for each card, in memory that its maker lends.
-ghost use Rattle.std.specs.Prelude.{◌≡◌, ℕ, ◌<◌, ◌≤◌, true, length, replicate, IfSome, Some, None, MatchOption, slice_set};
+ghost use Rattle.std.specs.Prelude.{◌≡◌, ℕ, ◌<◌, ◌≤◌, true, length, is_some, position, IfSome, Some, None, MatchOption, slice_set};
 ghost use Rattle.registers.specs.Fault.{first_cause, refusal, after};
 ghost use Rattle.registers.specs.Meaning.{entered, withdrawn, enter_causes, withdraw_causes};
-ghost use Rattle.lent.specs.Lent.{admitted_by, begun, possible, how_many};
-ghost use Rattle.lent.specs.List.{entries_fit, list_fits, list_causes, live, cost_for, first_cost, without, listed, list_means, list_cleared, Free, Found, Writable, Full};
+ghost use Rattle.lent.specs.Lent.{admitted_by, begun, how_many};
+ghost use Rattle.lent.specs.List.{entries_fit, list_fits, list_causes, live, cost_for, first_cost, without, listed, list_means, list_cleared, Free, Writable, Full};
 
-use crate::memory::{clear, nearest_size, size_fits};
+use crate::memory::{judge_memory, nearest_size, size_fits};
 use costs::Cost;
-use registers::{Format, MOST_FORMATS, Register, RegisterFault, judge_ends};
+use registers::{Format, MOST_FORMATS, Register, RegisterFault, judge_ends, judge_entry};
 
 // A list can use at most so many entries: one for each pair of the most formats.
 pub const MOST_ENTRIES: usize = MOST_FORMATS * (MOST_FORMATS - 1);
@@ -45,100 +45,20 @@ fn list_fits(n: usize, entries: usize) -> bool
     size_fits(n) && entries_fit(entries)
 }
 
-// Whether the two are different formats below n.
-fn is_possible(n: usize, from: Format, to: Format) -> bool
-    ensures { result ≡ possible n from to }
-{
-    from < n && to < n && from != to
-}
-
 // The entry, where it can hold a card.
 fn live_entry<C: Cost>(n: usize, held: Option<Entry<C>>) -> Option<Entry<C>>
     ensures { result ≡ live (admitted_by C.Cost.algebra C.Cost.value) n held }
 {
-    match held {
-        Some(entry) if is_possible(n, entry.from, entry.to) && entry.cost.admitted() => Some(entry),
-        _ => None,
-    }
+    held.filter(|entry| judge_entry(n, entry.from, entry.to, entry.cost).is_ok())
 }
 
 // The cost that an entry has for a pair.
 fn cost_for_pair<C: Cost>(n: usize, held: Option<Entry<C>>, from: Format, to: Format) -> Option<C>
     ensures { result ≡ cost_for (admitted_by C.Cost.algebra C.Cost.value) n held from to }
 {
-    match live_entry(n, held) {
-        Some(entry) if entry.from == from && entry.to == to => Some(entry.cost),
-        _ => None,
-    }
-}
-
-// The first entry for a pair.
-fn entry_for<C: Cost>(
-    n: usize,
-    entries: &[Option<Entry<C>>],
-    from: Format,
-    to: Format,
-) -> Option<usize>
-    ensures { MatchOption result (first_cost (admitted_by C.Cost.algebra C.Cost.value) n entries.now from to ≡ None) (λ i. Found (admitted_by C.Cost.algebra C.Cost.value) n entries.now from to i) }
-{
-    for i in 0..entries.len() {
-        let held = entries[i];
-        if cost_for_pair(n, held, from, to).is_some() {
-            return Some(i);
-        }
-    }
-    None
-}
-
-// The cost of the first entry for a pair.
-fn first_cost_for<C: Cost>(
-    n: usize,
-    entries: &[Option<Entry<C>>],
-    from: Format,
-    to: Format,
-) -> Option<C>
-    ensures value { result ≡ first_cost (admitted_by C.Cost.algebra C.Cost.value) n entries.now from to }
-    ensures admitted { IfSome result (λ x. C.Cost.algebra.admits (C.Cost.value x) ≡ true) }
-{
-    match entry_for(n, entries, from, to) {
-        Some(i) => {
-            let held = entries[i];
-            cost_for_pair(n, held, from, to)
-        }
-        None => None,
-    }
-}
-
-// The first free entry. Memory that the list did not write can have two entries for a pair: then the later one is free.
-fn free_entry<C: Cost>(n: usize, entries: &[Option<Entry<C>>]) -> Option<usize>
-    requires { n ≤ 64 }
-    ensures { MatchOption result (how_many n (first_cost (admitted_by C.Cost.algebra C.Cost.value) n entries.now) ≡ length entries.now) (λ i. (i < length entries.now) × Free (admitted_by C.Cost.algebra C.Cost.value) n entries.now i) }
-{
-    let mut seen = [false; MOST_PLACES];
-    for i in 0..entries.len() {
-        let held = entries[i];
-        let Some(entry) = live_entry(n, held) else {
-            return Some(i);
-        };
-        let place = entry.from * MOST_FORMATS + entry.to;
-        if seen[place] {
-            return Some(i);
-        }
-        seen[place] = true;
-    }
-    None
-}
-
-// Clears every entry for a pair.
-fn remove<C: Cost>(n: usize, entries: &mut [Option<Entry<C>>], from: Format, to: Format)
-    ensures { entries.new ≡ without (admitted_by C.Cost.algebra C.Cost.value) n from to entries.old }
-{
-    for i in 0..entries.len() {
-        let held = entries[i];
-        if cost_for_pair(n, held, from, to).is_some() {
-            entries[i] = None;
-        }
-    }
+    live_entry(n, held)
+        .filter(|entry| entry.from == from && entry.to == to)
+        .map(|entry| entry.cost)
 }
 
 impl<'a, C: Cost> List<'a, C> {
@@ -146,13 +66,7 @@ impl<'a, C: Cost> List<'a, C> {
     pub fn check(n: usize, entries: &[Option<Entry<C>>]) -> Result<(), RegisterFault>
         ensures answer { refusal result ≡ first_cause (list_causes n (length entries.now)) }
     {
-        if !size_fits(n) {
-            Err(RegisterFault::SizeUnfit)
-        } else if !entries_fit(entries.len()) {
-            Err(RegisterFault::MemoryUnfit)
-        } else {
-            Ok(())
-        }
+        judge_memory(n, entries_fit(entries.len()))
     }
 
     // A list with no card; made with what will not do, it refuses every change.
@@ -163,10 +77,48 @@ impl<'a, C: Cost> List<'a, C> {
         ensures lent { result.entries.ghost_name ≡ entries.entry.ghost_name }
     {
         if list_fits(n, entries.len()) {
-            let count = entries.len();
-            clear(entries, count);
+            entries.fill(None);
         }
         List { n, entries }
+    }
+
+    // Where the first entry for a pair lies.
+    fn entry_for(&self, from: Format, to: Format) -> Option<usize>
+        ensures { result ≡ position (λ e. is_some (cost_for (admitted_by C.Cost.algebra C.Cost.value) self.now.n e from to)) self.now.entries.now }
+    {
+        let n = self.n;
+        self.entries
+            .iter()
+            .position(|held| cost_for_pair(n, *held, from, to).is_some())
+    }
+
+    // The cost of the first entry for a pair.
+    fn first_cost_for(&self, from: Format, to: Format) -> Option<C>
+        ensures value { result ≡ first_cost (admitted_by C.Cost.algebra C.Cost.value) self.now.n self.now.entries.now from to }
+        ensures admitted { IfSome result (λ x. C.Cost.algebra.admits (C.Cost.value x) ≡ true) }
+    {
+        let i = self.entry_for(from, to)?;
+        cost_for_pair(self.n, self.entries[i], from, to)
+    }
+
+    // Where the first free entry lies. Memory that the list did not write can have two entries for a pair: then the later
+    // one is free.
+    fn free_entry(&self) -> Option<usize>
+        requires { self.now.n ≤ 64 }
+        ensures { MatchOption result (how_many self.now.n (first_cost (admitted_by C.Cost.algebra C.Cost.value) self.now.n self.now.entries.now) ≡ length self.now.entries.now) (λ i. (i < length self.now.entries.now) × Free (admitted_by C.Cost.algebra C.Cost.value) self.now.n self.now.entries.now i) }
+    {
+        let mut seen = [false; MOST_PLACES];
+        for (i, held) in self.entries.iter().enumerate() {
+            let Some(entry) = live_entry(self.n, *held) else {
+                return Some(i);
+            };
+            let place = entry.from * MOST_FORMATS + entry.to;
+            if seen[place] {
+                return Some(i);
+            }
+            seen[place] = true;
+        }
+        None
     }
 
     // Where a pair's card goes: into its entry, or else into a free one.
@@ -174,11 +126,26 @@ impl<'a, C: Cost> List<'a, C> {
         requires { self.now.n ≤ 64 }
         ensures { MatchOption result (Full (admitted_by C.Cost.algebra C.Cost.value) self.now.n self.now.entries.now from to) (λ i. Writable (admitted_by C.Cost.algebra C.Cost.value) self.now.n self.now.entries.now from to i) }
     {
-        let found = entry_for(self.n, self.entries, from, to);
+        let found = self.entry_for(from, to);
+        // Not `or_else`: of what its closure answers the proof would know nothing.
         if found.is_some() {
             found
         } else {
-            free_entry(self.n, self.entries)
+            self.free_entry()
+        }
+    }
+
+    // Clears every entry for a pair.
+    fn remove(&mut self, from: Format, to: Format)
+        ensures memory { self.new.entries.now ≡ without (admitted_by C.Cost.algebra C.Cost.value) self.old.n from to self.old.entries.now }
+        ensures size { self.new.n ≡ self.old.n }
+        ensures lent { self.new.entries.ghost_name ≡ self.old.entries.ghost_name }
+    {
+        let n = self.n;
+        for held in self.entries.iter_mut() {
+            if cost_for_pair(n, *held, from, to).is_some() {
+                *held = None;
+            }
         }
     }
 }
@@ -198,7 +165,7 @@ impl<'a, C: Cost> Register for List<'a, C> {
         {
             return None;
         }
-        first_cost_for(self.n, self.entries, from, to)
+        self.first_cost_for(from, to)
     }
 
     // Also what happens to the lent memory: a granted call writes one entry, and nothing else is touched.
@@ -209,10 +176,7 @@ impl<'a, C: Cost> Register for List<'a, C> {
         ensures size { self.new.n ≡ self.old.n }
         ensures lent { self.new.entries.ghost_name ≡ self.old.entries.ghost_name }
     {
-        judge_ends(nearest_size(self.n), from, to)?;
-        if !cost.admitted() {
-            return Err(RegisterFault::CostNotAdmitted);
-        }
+        judge_entry(nearest_size(self.n), from, to, cost)?;
         if !list_fits(self.n, self.entries.len()) {
             return Err(RegisterFault::Sealed);
         }
@@ -238,7 +202,7 @@ impl<'a, C: Cost> Register for List<'a, C> {
         if self.card(from, to).is_none() {
             return Err(RegisterFault::NoCard);
         }
-        remove(self.n, self.entries, from, to);
+        self.remove(from, to);
         Ok(())
     }
 }

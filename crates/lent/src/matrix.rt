@@ -5,9 +5,9 @@ ghost use Rattle.registers.specs.Meaning.{entered, withdrawn, enter_causes, with
 ghost use Rattle.lent.specs.Lent.{admitted_by, begun, readable};
 ghost use Rattle.lent.specs.Matrix.{matrix_fits, matrix_causes, matrix, matrix_means, matrix_cleared};
 
-use crate::memory::{clear, nearest_size, readable_cost, size_fits};
+use crate::memory::{judge_memory, nearest_size, size_fits};
 use costs::Cost;
-use registers::{Format, Register, RegisterFault, judge_ends};
+use registers::{Format, Register, RegisterFault, judge_ends, judge_entry};
 
 // A register of `n` formats in the first n × n places of `places`, row by row. Where `n` or the memory will not do,
 // it has no card and no free place, and every pair is sealed.
@@ -24,27 +24,12 @@ fn matrix_fits(n: usize, places: usize) -> bool
     size_fits(n) && n * n <= places
 }
 
-// The cost at a place, where a card may have it.
-fn cost_at<C: Cost>(places: &[Option<C>], place: usize) -> Option<C>
-    requires { place < length places.now }
-    ensures { result ≡ readable (admitted_by C.Cost.algebra C.Cost.value) (slice_index_or places.now place None) }
-{
-    let held = places[place];
-    readable_cost(held)
-}
-
 impl<'a, C: Cost> Matrix<'a, C> {
     // Whether a matrix of n formats can be made in this memory, or the first cause why not.
     pub fn check(n: usize, places: &[Option<C>]) -> Result<(), RegisterFault>
         ensures answer { refusal result ≡ first_cause (matrix_causes n (length places.now)) }
     {
-        if !size_fits(n) {
-            Err(RegisterFault::SizeUnfit)
-        } else if places.len() < n * n {
-            Err(RegisterFault::MemoryUnfit)
-        } else {
-            Ok(())
-        }
+        judge_memory(n, matrix_fits(n, places.len()))
     }
 
     // A matrix with no card; made with what will not do, it refuses every change.
@@ -55,9 +40,17 @@ impl<'a, C: Cost> Matrix<'a, C> {
         ensures lent { result.places.ghost_name ≡ places.entry.ghost_name }
     {
         if matrix_fits(n, places.len()) {
-            clear(places, n * n);
+            places[..n * n].fill(None);
         }
         Matrix { n, places }
+    }
+
+    // The cost at a place, where a card may have it.
+    fn cost_at(&self, place: usize) -> Option<C>
+        requires { place < length self.now.places.now }
+        ensures { result ≡ readable (admitted_by C.Cost.algebra C.Cost.value) (slice_index_or self.now.places.now place None) }
+    {
+        self.places[place].filter(|cost| cost.admitted())
     }
 }
 
@@ -76,7 +69,7 @@ impl<'a, C: Cost> Register for Matrix<'a, C> {
         {
             return None;
         }
-        cost_at(self.places, from * self.n + to)
+        self.cost_at(from * self.n + to)
     }
 
     // Also what happens to the lent memory: a granted call writes the pair's place, and nothing else is touched.
@@ -87,10 +80,7 @@ impl<'a, C: Cost> Register for Matrix<'a, C> {
         ensures size { self.new.n ≡ self.old.n }
         ensures lent { self.new.places.ghost_name ≡ self.old.places.ghost_name }
     {
-        judge_ends(nearest_size(self.n), from, to)?;
-        if !cost.admitted() {
-            return Err(RegisterFault::CostNotAdmitted);
-        }
+        judge_entry(nearest_size(self.n), from, to, cost)?;
         if !matrix_fits(self.n, self.places.len()) {
             return Err(RegisterFault::Sealed);
         }

@@ -1,9 +1,9 @@
 // What the registers in lent memory share.
-ghost use Rattle.std.specs.Prelude.{◌≡◌, ◌≤◌, ◌++◌, length, drop, replicate, None};
-ghost use Rattle.lent.specs.Lent.{admitted_by, size_fits, nearest_size, readable};
+ghost use Rattle.std.specs.Prelude.{◌≡◌};
+ghost use Rattle.registers.specs.Fault.{first_cause, refusal};
+ghost use Rattle.lent.specs.Lent.{size_fits, nearest_size, memory_causes};
 
-use costs::Cost;
-use registers::{LEAST_FORMATS, MOST_FORMATS};
+use registers::{LEAST_FORMATS, MOST_FORMATS, RegisterFault};
 
 // Whether a register can have so many formats.
 pub fn size_fits(n: usize) -> bool
@@ -12,29 +12,22 @@ pub fn size_fits(n: usize) -> bool
     LEAST_FORMATS <= n && n <= MOST_FORMATS
 }
 
+// That a register can have so many formats and that its memory will do, or the first cause why not.
+pub fn judge_memory(n: usize, memory_fits: bool) -> Result<(), RegisterFault>
+    ensures { refusal result ≡ first_cause (memory_causes n memory_fits) }
+{
+    if !size_fits(n) {
+        Err(RegisterFault::SizeUnfit)
+    } else if !memory_fits {
+        Err(RegisterFault::MemoryUnfit)
+    } else {
+        Ok(())
+    }
+}
+
 // The size that comes nearest to the one asked for.
 pub fn nearest_size(n: usize) -> usize
     ensures { result ≡ nearest_size n }
 {
     n.clamp(LEAST_FORMATS, MOST_FORMATS)
-}
-
-// A held cost, where a card may have it.
-pub fn readable_cost<C: Cost>(held: Option<C>) -> Option<C>
-    ensures { result ≡ readable (admitted_by C.Cost.algebra C.Cost.value) held }
-{
-    match held {
-        Some(cost) if cost.admitted() => Some(cost),
-        _ => None,
-    }
-}
-
-// Clears the first places of lent memory.
-pub fn clear<T: Copy>(memory: &mut [Option<T>], count: usize)
-    requires { count ≤ length memory.old }
-    ensures { memory.new ≡ replicate count None ++ drop count memory.old }
-{
-    for i in 0..count {
-        memory[i] = None;
-    }
 }

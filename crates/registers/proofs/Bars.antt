@@ -2,9 +2,9 @@
 use Rattle.std.proofs.Common.{◌≡◌, ℕ, Bool, true, false, cond, ◌&&◌, eqb, Some, None, Option, sym, refl, ap, ◌∙◌}
 use Rattle.std.proofs.lemmas.Bool.{and_parts, eqb-true}
 use Rattle.registers.specs.Bar.{touches, barred}
-use Rattle.registers.specs.Fault.{first_cause, after}
+use Rattle.registers.specs.Fault.{after}
 use Rattle.registers.specs.declared.fault.Code.{Code}
-use Rattle.registers.specs.Meaning.{Meaning, meant, put, standing, entered, withdrawn, enter_causes, withdraw_causes}
+use Rattle.registers.specs.Meaning.{Meaning, meant, put, standing, entered, withdrawn}
 use Rattle.registers.proofs.Meanings.{same_meaning, mapped_cond}
 
 pub barred_meant : {C V : Type 0} (bits : ℕ) (v : C → V) (m : Meaning C) → meant v (barred bits m) ≡ barred bits (meant v m)
@@ -32,12 +32,6 @@ module _ {V : Type 0} (bits : ℕ) (m : Meaning V) (a b : ℕ) (untouched : touc
 
 -- the calls of a bar at an untouched pair, from those of the register below: m is held at entry and k at exit
 module _ {C V : Type 0} (v : C → V) (bits : ℕ) (m k : Meaning C) (a b : ℕ) (untouched : touches bits a b ≡ false) where
-  pub barred_enter_answer : (r : Option Code) (admitted : Bool) → r ≡ first_cause (enter_causes (meant v m) a b admitted) → r ≡ first_cause (enter_causes (meant v (barred bits m)) a b admitted)
-  barred_enter_answer r admitted e = rw untouched e
-
-  pub barred_withdraw_answer : (r : Option Code) → r ≡ first_cause (withdraw_causes (meant v m) a b) → r ≡ first_cause (withdraw_causes (meant v (barred bits m)) a b)
-  barred_withdraw_answer r e = rw untouched e
-
   after_step : (r : Option Code) (step : Meaning V → Meaning V) → step (barred bits (meant v m)) ≡ barred bits (step (meant v m)) → meant v k ≡ after r (meant v m) (step (meant v m)) → meant v (barred bits k) ≡ after r (meant v (barred bits m)) (step (meant v (barred bits m)))
   after_step None step same e = barred_meant bits v k ∙ ap (barred bits) e ∙ sym same ∙ sym (ap step (barred_meant bits v m))
   after_step (Some f) step same e = barred_meant bits v k ∙ ap (barred bits) e ∙ sym (barred_meant bits v m)

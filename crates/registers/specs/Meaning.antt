@@ -10,9 +10,17 @@ use Rattle.registers.specs.declared.fault.Layer.TheVariants.{Register}
 abbrev pub most_formats : ℕ
 most_formats = 64
 
+-- two different formats of n
+abbrev pub possible : ℕ → ℕ → ℕ → Bool
+possible n a b = nat_lt a n && (nat_lt b n && not (a == b))
+
 -- why a layer refuses two ends, in order: one that is no format of n, and equal ends
 abbrev pub end_causes : Layer → ℕ → ℕ → ℕ → List (Bool × Code)
 end_causes l n a b = (not (nat_lt a n), code l 11 0) ∷ (not (nat_lt b n), code l 11 1) ∷ ((a == b), code l 12 1) ∷ []
+
+-- why a card is refused before its register looks at what it holds, in order: its ends, and a cost that no card may have
+abbrev pub entry_causes : ℕ → ℕ → ℕ → Bool → List (Bool × Code)
+entry_causes n a b admitted = end_causes Register n a b ++ (not admitted, code Register 13 2) ∷ []
 
 pub record Meaning (V : Type 0) : Type 0 where
   -- how many formats there are: they are the numbers below
@@ -29,9 +37,9 @@ abbrev pub meant : {C V : Type 0} → (C → V) → Meaning C → Meaning V
 meant value m = record { size = m.size; cards = λ a b. option_map value (m.cards a b); sealed = m.sealed; free = m.free }
 
 module _ {V : Type 0} where
-  -- two different formats: only these can have a card
+  -- only two different formats can have a card
   abbrev pub pair : Meaning V → ℕ → ℕ → Bool
-  pair m a b = nat_lt a m.size && (nat_lt b m.size && not (a == b))
+  pair m a b = possible m.size a b
 
   -- the cost of the standing card from a to b
   abbrev pub standing : Meaning V → ℕ → ℕ → Option V
@@ -52,7 +60,7 @@ module _ {V : Type 0} where
   -- why enter is refused, in order: its ends, a cost that no card may have, a sealed pair, no free place
   abbrev pub enter_causes : Meaning V → ℕ → ℕ → Bool → List (Bool × Code)
   enter_causes m a b admitted =
-      end_causes Register m.size a b ++ (not admitted, code Register 13 2) ∷ (m.sealed a b, code Register 21 0) ∷ (not (is_some (standing m a b)) && (m.free == 0), code Register 23 0) ∷ []
+      entry_causes m.size a b admitted ++ (m.sealed a b, code Register 21 0) ∷ (not (is_some (standing m a b)) && (m.free == 0), code Register 23 0) ∷ []
 
   -- why withdraw is refused, in order: its ends, a sealed pair, no card
   abbrev pub withdraw_causes : Meaning V → ℕ → ℕ → List (Bool × Code)

@@ -2,9 +2,8 @@
 ghost use Rattle.std.specs.Prelude.{◌≡◌, ◌<◌};
 ghost use Rattle.registers.specs.Bar.{bars, touches, barred};
 
-use crate::judge::judge_ends;
+use crate::judge::{judge_ends, judge_entry};
 use crate::{Format, Register, RegisterFault};
-use costs::Cost;
 
 // A register with some formats out of use: bit f of `bits` bars the format f. A pair that touches a barred format has
 // no card and is sealed; everything else is as in the register below. A bar is a register too, so bars can be piled.
@@ -65,10 +64,7 @@ impl<R: Register> Register for Bar<R> {
     }
 
     fn enter(&mut self, from: Format, to: Format, cost: R::Cost) -> Result<(), RegisterFault> {
-        judge_ends(self.below.size(), from, to)?;
-        if !cost.admitted() {
-            return Err(RegisterFault::CostNotAdmitted);
-        }
+        judge_entry(self.below.size(), from, to, cost)?;
         if has_barred_end(self.bits, from, to) {
             return Err(RegisterFault::Sealed);
         }

@@ -4,13 +4,13 @@ ghost use Rattle.std.specs.Option.{option_map};
 ghost use Rattle.costs.specs.Delay.{most_lines};
 ghost use Rattle.registers.specs.House.{house, house_cards, number, delayed};
 
-use crate::judge::judge_ends;
+use crate::judge::{judge_ends, judge_entry};
 use crate::{Format, Register, RegisterFault};
-use costs::{Cost, Delay};
+use costs::Delay;
 
 const HOUSE_SIZE: usize = 8;
 
-// No card.
+// No card. The table is one flat constant array of plain numbers, as the project wants it, so a number stands for none.
 const NO: i32 = i32::MIN;
 
 // Lines of delay, row by row: a row for each format as `from`, a column for each as `to`.
@@ -69,14 +69,11 @@ impl Register for HouseTable {
     }
 
     fn enter(&mut self, from: Format, to: Format, cost: Delay) -> Result<(), RegisterFault> {
-        judge_ends(HOUSE_SIZE, from, to)?;
-        if !cost.admitted() {
-            return Err(RegisterFault::CostNotAdmitted);
-        }
-        Err(RegisterFault::Sealed)
+        judge_entry(HOUSE_SIZE, from, to, cost).and(Err(RegisterFault::Sealed))
     }
 
     fn withdraw(&mut self, from: Format, to: Format) -> Result<(), RegisterFault> {
-        judge_ends(HOUSE_SIZE, from, to).and(Err(RegisterFault::Sealed))
+        judge_ends(HOUSE_SIZE, from, to)?;
+        Err(RegisterFault::Sealed)
     }
 }

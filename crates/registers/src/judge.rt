@@ -1,22 +1,43 @@
 // The causes that every register judges first.
-ghost use Rattle.std.specs.Prelude.{◌≡◌};
+ghost use Rattle.std.specs.Prelude.{◌≡◌, ◌&&◌, is_ok};
+ghost use Rattle.registers.specs.Ends.{ends_refusal};
 ghost use Rattle.registers.specs.Fault.{first_cause, refusal};
-ghost use Rattle.registers.specs.Meaning.{end_causes};
-ghost use Rattle.registers.specs.declared.fault.Layer.TheVariants.{Register};
+ghost use Rattle.registers.specs.Meaning.{end_causes, entry_causes, possible};
+ghost use Rattle.registers.specs.declared.fault.Layer.{Layer};
 
-use crate::{Format, RegisterFault};
+use crate::{EndsFault, Format, RegisterFault};
+use costs::Cost;
 
-// Two different formats below `size`, or the first cause why not.
-pub fn judge_ends(size: usize, from: Format, to: Format) -> Result<(), RegisterFault>
-    ensures { refusal result ≡ first_cause (end_causes Register size from to) }
+// Two different formats below `size`, or the first cause why not, whichever layer tells it.
+pub fn judge_ends(size: usize, from: Format, to: Format) -> Result<(), EndsFault>
+    ensures fine { is_ok result ≡ possible size from to }
+    ensures told { (l : Layer) → ends_refusal l result ≡ first_cause (end_causes l size from to) }
 {
     if from >= size {
-        Err(RegisterFault::FromOutside)
+        Err(EndsFault::FromOutside)
     } else if to >= size {
-        Err(RegisterFault::ToOutside)
+        Err(EndsFault::ToOutside)
     } else if from == to {
-        Err(RegisterFault::SameEnds)
+        Err(EndsFault::SameEnds)
     } else {
         Ok(())
+    }
+}
+
+// Ends and a cost that a card can have, or the first cause why not.
+pub fn judge_entry<C: Cost>(
+    size: usize,
+    from: Format,
+    to: Format,
+    cost: C,
+) -> Result<(), RegisterFault>
+    ensures fine { is_ok result ≡ (possible size from to && C.Cost.algebra.admits (C.Cost.value cost)) }
+    ensures told { refusal result ≡ first_cause (entry_causes size from to (C.Cost.algebra.admits (C.Cost.value cost))) }
+{
+    judge_ends(size, from, to)?;
+    if cost.admitted() {
+        Ok(())
+    } else {
+        Err(RegisterFault::CostNotAdmitted)
     }
 }

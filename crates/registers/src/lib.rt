@@ -1,5 +1,5 @@
 // Registers: which converter cards stand, behind one trait. The layers above are proved over a register's meaning.
-// `judge_ends` is pub only for our own crates: a register of theirs judges its ends by it.
+// `judge_ends` and `judge_entry` are pub only for our own crates: a register of theirs judges its calls by them.
 #![tactic(auto)]
 
 mod bar;
@@ -14,9 +14,9 @@ ghost use Rattle.registers.specs.Meaning.{Meaning, meant, most_formats, standing
 
 pub use bar::Bar;
 use costs::Cost;
-pub use fault::{Code, Layer, RegisterFault};
+pub use fault::{Code, EndsFault, Layer, RegisterFault};
 pub use house::HouseTable;
-pub use judge::judge_ends;
+pub use judge::{judge_ends, judge_entry};
 
 // A register has at least so many formats.
 pub const LEAST_FORMATS: usize = 2;

@@ -4,11 +4,8 @@ use Rattle.registers.specs.House.{house_cards}
 use Rattle.registers.proofs.HouseCards.{house_admitted, none_read, some_read}
 use Rattle.registers.proofs.house.delay_at.Goals as goal
 
-pub returns-then-lines : goal.returns-then-lines
-returns-then-lines c = record {
-  value = none_read _ _ (house_admitted c.args.place c.requires) c.number_at-lines.ensures c.if-lines.true;
-  admitted = tt;
-}
+pub returns-then-lines-clause-value : goal.returns-then-lines-clause-value
+returns-then-lines-clause-value c = none_read _ _ (house_admitted c.args.place c.requires) c.number_at-lines.ensures c.if-lines.true
 
 pub returns-else-lines : goal.returns-else-lines
 returns-else-lines c =

@@ -1,22 +1,14 @@
-use Rattle.std.proofs.Common.{refl, ap, ◌∙◌}
-use Rattle.std.proofs.lemmas.Result.{err_from_is_err_and}
+use Rattle.std.proofs.Common.{◌∙◌}
 use Rattle.registers.specs.Meaning.{meant}
 use Rattle.lent.specs.List.{listed}
 use Rattle.lent.specs.Lent.{admitted_by}
-use Rattle.registers.proofs.Meanings.{withdraw_ends_refused}
 use Rattle.lent.proofs.Listed.{list_withdraw_answer, list_withdraw_after}
 use Rattle.lent.proofs.list.ListRegister.withdraw.Goals as goal
 
-pub returns-in_err-judge_ends : goal.returns-in_err-judge_ends
-returns-in_err-judge_ends g c =
-    let p = err_from_is_err_and c.from_residual.result c.from_residual.ensures.1 in
-    rw (p.1, p.2) (record { answer = withdraw_ends_refused (meant g.C.Cost.value (listed (admitted_by g.C.Cost.algebra g.C.Cost.value) c.args.self.now.n c.args.self.now.entries.now)) _ _ _ _ c.nearest_size.ensures c.in_err-judge_ends.ensures; after = refl; memory = refl; size = refl; lent = refl })
+pub returns-clause-answer : goal.returns-clause-answer
+returns-clause-answer g c =
+    list_withdraw_answer g.C.Cost.value (admitted_by g.C.Cost.algebra g.C.Cost.value) c.args.self.now.n c.args.self.now.entries.now c.args.from c.args.to _ c.nearest_size.ensures c.in_ok-judge_ends.ensures.fine c.if-not-list_fits.ensures c.card.result c.card.ensures.value c.if-is_none.ensures
 
-pub returns : goal.returns
-returns g c = record {
-  answer = list_withdraw_answer g.C.Cost.value (admitted_by g.C.Cost.algebra g.C.Cost.value) c.args.self.now.n c.args.self.now.entries.now c.args.from c.args.to _ c.nearest_size.ensures c.in_ok-judge_ends.ensures c.if-not-list_fits.ensures c.card.result c.card.ensures.value c.if-is_none.ensures;
-  after = ap (λ l. meant g.C.Cost.value (listed (admitted_by g.C.Cost.algebra g.C.Cost.value) c.args.self.now.n l)) c.remove.ensures ∙ list_withdraw_after g.C.Cost.value (admitted_by g.C.Cost.algebra g.C.Cost.value) c.args.self.now.n c.args.self.now.entries.now c.args.from c.args.to _ c.nearest_size.ensures c.in_ok-judge_ends.ensures c.if-not-list_fits.ensures c.card.result c.card.ensures.value c.if-is_none.ensures;
-  memory = c.remove.ensures;
-  size = refl;
-  lent = refl;
-}
+pub returns-clause-after : goal.returns-clause-after
+returns-clause-after g c =
+    (λ i. meant g.C.Cost.value (listed (admitted_by g.C.Cost.algebra g.C.Cost.value) (c.remove.ensures.size i) (c.remove.ensures.memory i))) ∙ list_withdraw_after g.C.Cost.value (admitted_by g.C.Cost.algebra g.C.Cost.value) c.args.self.now.n c.args.self.now.entries.now c.args.from c.args.to _ c.nearest_size.ensures c.in_ok-judge_ends.ensures.fine c.if-not-list_fits.ensures c.card.result c.card.ensures.value c.if-is_none.ensures
