@@ -3,11 +3,12 @@ use Rattle.std.proofs.Common.{◌≡◌, ℕ, ◌+◌, ◌<◌, cond, not, eqb, 
 use Rattle.std.proofs.lemmas.List.{take_more_set, drop-drop, drop-set-lt, length-take-le}
 use Rattle.std.proofs.lemmas.Bool.{cond-true, cond-false, eq-eqb, lt-ltb}
 use Rattle.costs.specs.Algebra.{Algebra}
+use Rattle.registers.specs.Fault.{first_cause}
 use Rattle.bay.specs.Plain.{Plain}
 use Rattle.ticket.specs.Grammar.{IsRead, IsRefused}
 use Rattle.ticket.specs.declared.line.Read.{Read}
 use Rattle.ticket.specs.declared.line.Stage.TheVariants.{Formats, Cards, Legs}
-use Rattle.ticket_call.specs.Faults.{first_told, told_by}
+use Rattle.ticket_call.specs.Faults.{told_by}
 use Rattle.ticket_call.specs.Said.{Said, said, due, adds, line_causes, Passes, More, Through, LineRefused, Stops}
 use Rattle.ticket_call.specs.Steps.{FormatRead, FormatRefused, FormatsRead}
 use Rattle.ticket_call.specs.declared.fault.Refusal.{Refusal}
@@ -33,7 +34,7 @@ module _ (A : Algebra) {C : Type 0} (value : C → A.Value) (cost_of : ℤ → C
     format_passes end r = record {
       is_read = subst (λ stage. IsRead stage text from r.read) (sym format_is_due) r.is_read;
       no_cause =
-          ap (λ l. first_told (line_causes A value cost_of (said (take k codes) p) (length text) from l)) r.line_is
+          ap (λ l. first_cause (line_causes A value cost_of (said (take k codes) p) (length text) from l)) r.line_is
           ∙ cond-false _ _ _ (ap not (eq-eqb k (length (take k codes)) (sym long)))
           ∙ cond-false _ _ _ r.unused;
     }
@@ -49,7 +50,7 @@ module _ (A : Algebra) {C : Type 0} (value : C → A.Value) (cost_of : ℤ → C
       | inr h ↦ inr (
         h.0,
         subst (λ stage. IsRead stage text from h.0) (sym format_is_due) h.3,
-        ap (λ l. first_told (line_causes A value cost_of (said (take k codes) p) (length text) from l)) h.4 ∙ h.5,
+        ap (λ l. first_cause (line_causes A value cost_of (said (take k codes) p) (length text) from l)) h.4 ∙ h.5,
       )
     ]
 

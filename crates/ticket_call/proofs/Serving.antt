@@ -10,8 +10,9 @@ use Rattle.lent.specs.List.{entries_fit, list_fits}
 use Rattle.lent.specs.declared.list.Entry.{Entry}
 use Rattle.walks.specs.declared.cells.Cell.{Cell}
 use Rattle.ticket.specs.declared.line.Read.{Read}
+use Rattle.registers.specs.Fault.{first_cause}
 use Rattle.ticket_call.specs.Answers.{Common, LinesAnswer}
-use Rattle.ticket_call.specs.Faults.{Told, first_told}
+use Rattle.ticket_call.specs.Faults.{Told}
 use Rattle.ticket_call.specs.Said.{Said, adds, bay_causes, ticket_entries, in_front, Through, Stops, Completes}
 use Rattle.ticket_call.specs.declared.fault.Refusal.{Refusal}
 use Rattle.ticket_call.proofs.Taking.{none_holds}
@@ -48,7 +49,7 @@ module _ (A : Algebra) {C : Type 0} (value : C → A.Value) (cost_of : ℤ → C
     }
 
 -- a bay line that passes: the size is one that a register has, and there are entries enough
-pub bay_fits : (n entries : ℕ) → first_told (bay_causes n entries) ≡ None → (size_fits n ≡ true) × (ticket_entries ≤ entries)
+pub bay_fits : (n entries : ℕ) → first_cause (bay_causes n entries) ≡ None → (size_fits n ≡ true) × (ticket_entries ≤ entries)
 bay_fits n entries e =
     let none = none_holds (bay_causes n entries) e in
     (not-false (size_fits n) none.0, ltb-false entries ticket_entries none.1.0)

@@ -20,7 +20,7 @@ use Rattle.ticket.specs.declared.line.Line.TheVariants.{Card, Leg}
 use Rattle.ticket.specs.declared.line.Read.{Read}
 use Rattle.ticket.specs.declared.line.Stage.{Stage}
 use Rattle.ticket.specs.declared.line.Stage.TheVariants.{Formats, Cards, Legs}
-use Rattle.ticket_call.specs.Faults.{Told, at_byte, first_told, told, told_by}
+use Rattle.ticket_call.specs.Faults.{Told, at_byte, told, told_by}
 use Rattle.ticket_call.specs.Said.{Said, said, due, adds, each_at, in_front, line_causes, Passes, More, Through, LineRefused, Stops, Completes}
 use Rattle.ticket_call.specs.Steps.{Coded, OrderTaken, OrdersEnd, OrdersTaken, OrdersRead}
 use Rattle.ticket_call.proofs.Passing.{through_more}
@@ -33,26 +33,20 @@ abbrev pub NoneHolds : {X : Type 0} → List (Bool × X) → Type 0
 NoneHolds [] = Unit {0}
 NoneHolds (cause ∷ causes) = (cause.0 ≡ false) × NoneHolds causes
 
-pub none_holds : {X : Type 0} (causes : List (Bool × X)) → first_told causes ≡ None → NoneHolds causes
+pub none_holds : {X : Type 0} (causes : List (Bool × X)) → first_cause causes ≡ None → NoneHolds causes
 none_holds [] e = tt
 none_holds ((true, x) ∷ causes) e = absurd (let z : ◌≡◌ {A = ℕ} 0 1 = cc in omega arith)
 none_holds ((false, x) ∷ causes) e = (refl, none_holds causes e)
 
--- of a call's causes the first that holds is told
-pub first_same : (causes : List (Bool × Code)) → first_told causes ≡ first_cause causes
-first_same [] = refl
-first_same ((true, c) ∷ causes) = refl
-first_same ((false, c) ∷ causes) = first_same causes
-
 -- the first cause, told at a byte
-pub first_at : (byte : ℕ) (causes : List (Bool × Code)) → first_told (each_at byte causes) ≡ option_map (told byte) (first_cause causes)
+pub first_at : (byte : ℕ) (causes : List (Bool × Code)) → first_cause (each_at byte causes) ≡ option_map (told byte) (first_cause causes)
 first_at byte [] = refl
 first_at byte ((true, c) ∷ causes) = refl
 first_at byte ((false, c) ∷ causes) = first_at byte causes
 
 -- a call that is refused, told at a byte
 pub refused_at : {X : Type 0} (byte : ℕ) (r : Result X BayFault) (refusal : Refusal) (causes : List (Bool × Code)) → at_byte byte r ≡ Err refusal → refused r ≡ first_cause causes →
-    first_told (each_at byte causes) ≡ Some (told_by refusal)
+    first_cause (each_at byte causes) ≡ Some (told_by refusal)
 refused_at byte (Ok x) refusal causes e h = absurd (let z : ◌≡◌ {A = ℕ} 0 1 = cc in omega arith)
 refused_at byte (Err f) refusal causes e h =
     let same : ◌≡◌ {A = Refusal} (record { fault = Bay f; byte = byte }) refusal = cc in
@@ -60,7 +54,7 @@ refused_at byte (Err f) refusal causes e h =
 
 -- a call that is granted
 pub granted_at : {X : Type 0} (byte : ℕ) (r : Result X BayFault) (x : X) (causes : List (Bool × Code)) → at_byte byte r ≡ Ok x → refused r ≡ first_cause causes →
-    (r ≡ Ok x) × (first_cause causes ≡ None) × (first_told (each_at byte causes) ≡ None)
+    (r ≡ Ok x) × (first_cause causes ≡ None) × (first_cause (each_at byte causes) ≡ None)
 granted_at byte (Ok y) x causes e h = (let same : y ≡ x = cc in ap Ok same, sym h, first_at byte causes ∙ ap (option_map (told byte)) (sym h))
 granted_at byte (Err f) x causes e h = absurd (let z : ◌≡◌ {A = ℕ} 0 1 = cc in omega arith)
 
@@ -71,7 +65,7 @@ after_none (Some c) x y e = absurd (let z : ◌≡◌ {A = ℕ} 0 1 = cc in omeg
 
 -- a leg is booked where there is room for it
 pub book_room : {V : Type 0} (p : Plain V) (a b : ℕ) → first_cause (book_causes p a b) ≡ None → length p.legs < 32
-book_room p a b e = leb-false 32 (length p.legs) (none_holds (book_causes p a b) (first_same (book_causes p a b) ∙ e)).1.1.1.0
+book_room p a b e = leb-false 32 (length p.legs) (none_holds (book_causes p a b) e).1.1.1.0
 
 -- one element more in the front of a place
 pub front_more : {X : Type 0} (new : List X) (x : X) (old : List X) (n : ℕ) → n ≡ length new → n < length old → set (in_front new old) n x ≡ in_front (new ++ x ∷ []) old
@@ -95,14 +89,14 @@ module _ (A : Algebra) {C : Type 0} (value : C → A.Value) (cost_of : ℤ → C
     unfit_line byte t h e = inl (subst (λ x. IsRefused (due s) text place x.byte) (sym e) (subst (λ x. IsRefused x text place byte) (sym is_due) h), ap (λ x. x.code) e)
 
     module _ (read : Read) (line : Line) (is_read : IsRead stage text place read) (line_is : read.line ≡ line) where
-      pub passes_line : first_told (line_causes A value cost_of s (length text) place line) ≡ None → Passes A value cost_of text s place read
+      pub passes_line : first_cause (line_causes A value cost_of s (length text) place line) ≡ None → Passes A value cost_of text s place read
       passes_line e = record {
         is_read = subst (λ x. IsRead x text place read) (sym is_due) is_read;
-        no_cause = ap (λ l. first_told (line_causes A value cost_of s (length text) place l)) line_is ∙ e;
+        no_cause = ap (λ l. first_cause (line_causes A value cost_of s (length text) place l)) line_is ∙ e;
       }
 
-      pub refuses_line : (t : Told) → first_told (line_causes A value cost_of s (length text) place line) ≡ Some t → LineRefused A value cost_of text s place t
-      refuses_line t e = inr (read, subst (λ x. IsRead x text place read) (sym is_due) is_read, ap (λ l. first_told (line_causes A value cost_of s (length text) place l)) line_is ∙ e)
+      pub refuses_line : (t : Told) → first_cause (line_causes A value cost_of s (length text) place line) ≡ Some t → LineRefused A value cost_of text s place t
+      refuses_line t e = inr (read, subst (λ x. IsRead x text place read) (sym is_due) is_read, ap (λ l. first_cause (line_causes A value cost_of s (length text) place l)) line_is ∙ e)
 
   module _ (p p' : Plain A.Value) (place : ℕ) (stage : Stage) (legs : ℕ) (legs_are : legs ≡ length p.legs) (stage_is : stage ≡ cond (eqb legs 0) Cards Legs) (read : Read) (is_read : IsRead stage text place read) (ends ends' : List Ends) where
     is_due : (codes : List (List ℕ)) → p.register.size ≤ length codes → due (said codes p) ≡ stage
@@ -110,13 +104,13 @@ module _ (A : Algebra) {C : Type 0} (value : C → A.Value) (cost_of : ℤ → C
 
     -- a card is entered
     pub card_taken : (a b : ℕ) (z : ℤ) (cost : C) → read.line ≡ Card a b z → cost ≡ cost_of z → first_cause (enter_causes p.register a b (A.admits (value cost))) ≡ None →
-        first_told (each_at place (enter_causes p.register a b (A.admits (value cost)))) ≡ None → p' ≡ step A value p (Enter a b cost) → ends' ≡ ends →
+        first_cause (each_at place (enter_causes p.register a b (A.admits (value cost)))) ≡ None → p' ≡ step A value p (Enter a b cost) → ends' ≡ ends →
         OrderTaken A value cost_of text place p p' ends ends' (record { place = read.end; legs = legs })
     card_taken a b z cost line_is cost_is none none_at after_is same =
         let now_is : p' ≡ with_register p (entered p.register a b (value cost)) = after_is ∙ after_none _ p _ none in
         record {
           read = read;
-          passes = λ codes h. passes_line (said codes p) place stage (is_due codes h) read (Card a b z) is_read line_is (ap (λ x. first_told (each_at place (enter_causes p.register a b (A.admits (value x))))) (sym cost_is) ∙ none_at);
+          passes = λ codes h. passes_line (said codes p) place stage (is_due codes h) read (Card a b z) is_read line_is (ap (λ x. first_cause (each_at place (enter_causes p.register a b (A.admits (value x))))) (sym cost_is) ∙ none_at);
           more = subst More (sym line_is) tt;
           adds_it = λ codes. ap (adds A value cost_of (said codes p)) line_is ∙ ap (λ x. said codes (step A value p (Enter a b x))) (sym cost_is) ∙ ap (said codes) (sym after_is);
           size = ap (λ x. x.register.size) now_is;
@@ -126,7 +120,7 @@ module _ (A : Algebra) {C : Type 0} (value : C → A.Value) (cost_of : ℤ → C
         }
 
     -- a leg is booked
-    pub leg_taken : (a b : ℕ) (n : ℕ) → read.line ≡ Leg a b → first_cause (book_causes p a b) ≡ None → first_told (each_at place (book_causes p a b)) ≡ None →
+    pub leg_taken : (a b : ℕ) (n : ℕ) → read.line ≡ Leg a b → first_cause (book_causes p a b) ≡ None → first_cause (each_at place (book_causes p a b)) ≡ None →
         p' ≡ step A value p (Book a b) → n ≡ length p.legs → ends' ≡ set ends n (record { from = a; to = b }) →
         OrderTaken A value cost_of text place p p' ends ends' (record { place = read.end; legs = n + 1 })
     leg_taken a b n line_is none none_at after_is n_is written =
@@ -145,12 +139,12 @@ module _ (A : Algebra) {C : Type 0} (value : C → A.Value) (cost_of : ℤ → C
         }
 
     pub card_refused : (a b : ℕ) (z : ℤ) (cost : C) (refusal : Refusal) → read.line ≡ Card a b z → cost ≡ cost_of z →
-        first_told (each_at place (enter_causes p.register a b (A.admits (value cost)))) ≡ Some (told_by refusal) →
+        first_cause (each_at place (enter_causes p.register a b (A.admits (value cost)))) ≡ Some (told_by refusal) →
         (codes : List (List ℕ)) → p.register.size ≤ length codes → LineRefused A value cost_of text (said codes p) place (told_by refusal)
     card_refused a b z cost refusal line_is cost_is told_is codes h =
-        refuses_line (said codes p) place stage (is_due codes h) read (Card a b z) is_read line_is (told_by refusal) (ap (λ x. first_told (each_at place (enter_causes p.register a b (A.admits (value x))))) (sym cost_is) ∙ told_is)
+        refuses_line (said codes p) place stage (is_due codes h) read (Card a b z) is_read line_is (told_by refusal) (ap (λ x. first_cause (each_at place (enter_causes p.register a b (A.admits (value x))))) (sym cost_is) ∙ told_is)
 
-    pub leg_refused : (a b : ℕ) (refusal : Refusal) → read.line ≡ Leg a b → first_told (each_at place (book_causes p a b)) ≡ Some (told_by refusal) →
+    pub leg_refused : (a b : ℕ) (refusal : Refusal) → read.line ≡ Leg a b → first_cause (each_at place (book_causes p a b)) ≡ Some (told_by refusal) →
         (codes : List (List ℕ)) → p.register.size ≤ length codes → LineRefused A value cost_of text (said codes p) place (told_by refusal)
     leg_refused a b refusal line_is told_is codes h = refuses_line (said codes p) place stage (is_due codes h) read (Leg a b) is_read line_is (told_by refusal) told_is
 

@@ -7,6 +7,7 @@ use Rattle.costs.specs.declared.delay.Delay.{Delay}
 use Rattle.costs.specs.declared.depth.Depth.{Depth}
 use Rattle.lent.specs.declared.list.Entry.{Entry}
 use Rattle.walks.specs.declared.cells.Cell.{Cell}
+use Rattle.registers.specs.Fault.{first_cause}
 use Rattle.bay.specs.Routing.{Desk, RouteAnswer}
 use Rattle.bay.specs.declared.fault.BayFault.{BayFault}
 use Rattle.bay.specs.Plain.{Ends}
@@ -17,7 +18,7 @@ use Rattle.ticket.specs.declared.line.Kind.TheVariants as kind
 use Rattle.ticket.specs.declared.line.Line.TheVariants.{Bay}
 use Rattle.ticket.specs.declared.line.Read.{Read}
 use Rattle.ticket.specs.declared.line.Stage.TheVariants.{Start}
-use Rattle.ticket_call.specs.Faults.{at_byte, first_told, told_by}
+use Rattle.ticket_call.specs.Faults.{at_byte, told_by}
 use Rattle.ticket_call.specs.Kinds.{delay_of, depth_of}
 use Rattle.ticket_call.specs.Said.{Said, begins, bay_causes, ticket_entries, in_front, Stops, Completes}
 use Rattle.ticket_call.specs.declared.fault.Refusal.{Refusal}
@@ -83,13 +84,13 @@ module _ (A : Algebra) {C : Type 0} (value : C → A.Value) (cost_of : ℤ → C
   -- the bay line is refused
   pub record BayRefused (n : ℕ) : Type 0 where
     pub refusal : Refusal
-    pub cause : first_told (bay_causes n (length k.entries)) ≡ Some (told_by refusal)
+    pub cause : first_cause (bay_causes n (length k.entries)) ≡ Some (told_by refusal)
     pub answers : answer ≡ Err refusal
     pub untouched : Untouched k k' c c'
 
   -- the bay line passes
   pub record BayPasses (n : ℕ) : Type 0 where
-    pub no_cause : first_told (bay_causes n (length k.entries)) ≡ None
+    pub no_cause : first_cause (bay_causes n (length k.entries)) ≡ None
     pub lines : LinesAnswer (begins n)
 
   -- what a ticket of the kind is answered, after its bay line for n formats; entries that it does not use are as they were

@@ -1,5 +1,5 @@
 -- The faults of a ticket: layer, number and part of every cause, and the byte that is told with it.
-use Rattle.std.specs.Prelude.{ℕ, Bool, cond, List, [], ◌∷◌, Some, None, Ok, Err, Option, Result}
+use Rattle.std.specs.Prelude.{ℕ, Some, None, Ok, Err, Option, Result}
 use Rattle.registers.specs.Fault.{code}
 use Rattle.registers.specs.declared.fault.Code.{Code}
 use Rattle.registers.specs.declared.fault.Layer.TheVariants.{Ticket}
@@ -30,12 +30,6 @@ told byte code = record { code = code; byte = byte }
 
 abbrev pub told_by : Refusal → Told
 told_by r = told r.byte (ticket_code r.fault)
-
--- The causes of a refusal in their order, each with whether it holds and with what is told of it. The first that holds is
--- told.
-abbrev pub first_told : {X : Type 0} → List (Bool × X) → Option X
-first_told [] = None
-first_told (cause ∷ causes) = cond cause.0 (Some cause.1) (first_told causes)
 
 -- a call's answer, with the byte of the line that made it
 abbrev pub at_byte : {X : Type 0} → ℕ → Result X BayFault → Result X Refusal

@@ -1,7 +1,7 @@
 -- What the lines of a ticket say one after the other, and why a line is refused.
 use Rattle.std.specs.Prelude.{◌≡◌, ℕ, ◌+◌, Bool, true, false, cond, not, ◌&&◌, ◌||◌, ◌⊎◌, List, [], ◌∷◌, ◌++◌, length, drop, ℤ, Some, None, ◌==◌, nat_lt}
 use Rattle.costs.specs.Algebra.{Algebra}
-use Rattle.registers.specs.Fault.{code}
+use Rattle.registers.specs.Fault.{code, first_cause}
 use Rattle.registers.specs.Meaning.{enter_causes}
 use Rattle.registers.specs.declared.fault.Code.{Code}
 use Rattle.registers.specs.declared.fault.Layer.TheVariants.{Ticket, Register}
@@ -14,7 +14,7 @@ use Rattle.ticket.specs.declared.line.Line.TheVariants.{Bay, Format, Card, Leg, 
 use Rattle.ticket.specs.declared.line.Read.{Read}
 use Rattle.ticket.specs.declared.line.Stage.{Stage}
 use Rattle.ticket.specs.declared.line.Stage.TheVariants.{Formats, Cards, Legs}
-use Rattle.ticket_call.specs.Faults.{Told, first_told, told}
+use Rattle.ticket_call.specs.Faults.{Told, told}
 
 -- the cards of a ticket lie in so many entries of the memory that is handed in
 abbrev pub ticket_entries : ℕ
@@ -101,7 +101,7 @@ module _ (A : Algebra) {C : Type 0} (value : C → A.Value) (cost_of : ℤ → C
     -- the line is read at `from`, and no cause holds against it
     pub record Passes (s : Said A.Value) (from : ℕ) (read : Read) : Type 0 where
       pub is_read : IsRead (due s) text from read
-      pub no_cause : first_told (line_causes s (length text) from read.line) ≡ None
+      pub no_cause : first_cause (line_causes s (length text) from read.line) ≡ None
 
     -- the lines stand in the text one after the other from `from` to `place`, all of them pass, and then so much is said
     abbrev pub Through : Said A.Value → ℕ → List Read → ℕ → Said A.Value → Type 0
@@ -112,7 +112,7 @@ module _ (A : Algebra) {C : Type 0} (value : C → A.Value) (cost_of : ℤ → C
     abbrev pub LineRefused : Said A.Value → ℕ → Told → Type 0
     LineRefused s from t =
         (IsRefused (due s) text from t.byte × (t.code ≡ code Ticket 2 0)) ⊎
-        ((read : Read) × IsRead (due s) text from read × (first_told (line_causes s (length text) from read.line) ≡ Some t))
+        ((read : Read) × IsRead (due s) text from read × (first_cause (line_causes s (length text) from read.line) ≡ Some t))
 
     -- some lines pass, and the next is refused
     pub record Stops (s : Said A.Value) (from : ℕ) (t : Told) : Type 0 where

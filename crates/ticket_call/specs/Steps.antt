@@ -1,14 +1,14 @@
 -- What the functions that read a ticket owe to one another.
 use Rattle.std.specs.Prelude.{◌≡◌, ℕ, ◌≤◌, false, ◌⊎◌, List, [], length, take, drop, ℤ, Some, None, Ok, Err, Option, Result, slice_set}
 use Rattle.costs.specs.Algebra.{Algebra}
-use Rattle.registers.specs.Fault.{code}
+use Rattle.registers.specs.Fault.{code, first_cause}
 use Rattle.registers.specs.declared.fault.Layer.TheVariants.{Ticket}
 use Rattle.bay.specs.Plain.{Ends, Plain}
 use Rattle.ticket.specs.Grammar.{IsRead, IsRefused}
 use Rattle.ticket.specs.declared.line.Line.TheVariants.{Format, End}
 use Rattle.ticket.specs.declared.line.Read.{Read}
 use Rattle.ticket.specs.declared.line.Stage.TheVariants.{Formats}
-use Rattle.ticket_call.specs.Faults.{first_told, told_by}
+use Rattle.ticket_call.specs.Faults.{told_by}
 use Rattle.ticket_call.specs.Said.{format_causes, used, said, adds, in_front, Passes, More, Through, LineRefused, Stops, Completes}
 use Rattle.ticket_call.specs.declared.fault.Refusal.{Refusal}
 use Rattle.ticket_call.specs.declared.orders.Progress.{Progress}
@@ -27,7 +27,7 @@ pub record FormatRead (text : List ℕ) (from k : ℕ) (codes codes' : List (Lis
 pub record FormatRefused (text : List ℕ) (from k : ℕ) (codes codes' : List (List ℕ)) (refusal : Refusal) : Type 0 where
   pub why :
       (IsRefused Formats text from refusal.byte × ((told_by refusal).code ≡ code Ticket 2 0)) ⊎
-      ((read : Read) × (j : ℕ) × (fourcc : List ℕ) × IsRead Formats text from read × (read.line ≡ Format j fourcc) × (first_told (format_causes (take k codes) from j fourcc) ≡ Some (told_by refusal)))
+      ((read : Read) × (j : ℕ) × (fourcc : List ℕ) × IsRead Formats text from read × (read.line ≡ Format j fourcc) × (first_cause (format_causes (take k codes) from j fourcc) ≡ Some (told_by refusal)))
   pub same : codes' ≡ codes
 
 abbrev pub FormatAnswer : List ℕ → ℕ → ℕ → List (List ℕ) → List (List ℕ) → Result ℕ Refusal → Type 0

@@ -1,10 +1,11 @@
 // A ticket, from its text to its answer.
 ghost use Rattle.std.specs.Prelude.{◌≡◌, ◌≤◌, [], length, map};
+ghost use Rattle.registers.specs.Fault.{first_cause};
 ghost use Rattle.bay.specs.Bays.{plain};
 ghost use Rattle.bay.specs.Legs.{booked};
 ghost use Rattle.ticket_call.specs.Answers.{LinesAnswer, KindAnswer, TicketAnswer, of_lists};
 ghost use Rattle.ticket_call.specs.Ends.{leg_ends};
-ghost use Rattle.ticket_call.specs.Faults.{first_told, told_of};
+ghost use Rattle.ticket_call.specs.Faults.{told_of};
 ghost use Rattle.ticket_call.specs.Said.{said, bay_causes};
 
 use crate::fault::{Refusal, TicketFault, at_byte};
@@ -45,7 +46,7 @@ pub struct Granted {
 
 // That a bay of `n` formats can be made with so many entries, or the first cause why not.
 fn judge_bay(n: usize, entries: usize) -> Result<(), Refusal>
-    ensures { told_of result ≡ first_told (bay_causes n entries) }
+    ensures { told_of result ≡ first_cause (bay_causes n entries) }
 {
     if n < LEAST_FORMATS || n > MOST_FORMATS {
         return Err(Refusal {

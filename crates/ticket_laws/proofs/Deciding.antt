@@ -1,11 +1,9 @@
 -- The lines of a text pass in one way only, and what comes after them is told in one way only.
-use Rattle.std.proofs.Common.{◌≡◌, ℕ, ◌<◌, ◌⊎◌, List, [], ◌∷◌, length, ℤ, Some, None, Ok, Err, Option, Result, sym, refl, ap, ◌∙◌, subst, inl, inr, arith}
-use Rattle.std.specs.Option.{option_map}
+use Rattle.std.proofs.Common.{◌≡◌, ℕ, ◌⊎◌, List, [], ◌∷◌, length, ℤ, Some, None, Ok, Err, Option, Result, sym, refl, ap, ◌∙◌, subst, inl, inr, arith}
 use Rattle.costs.specs.Algebra.{Algebra}
-use Rattle.registers.specs.Fault.{code, first_cause}
+use Rattle.registers.specs.Fault.{first_cause}
 use Rattle.registers.specs.Meaning.{standing}
 use Rattle.registers.specs.declared.fault.Code.{Code}
-use Rattle.registers.specs.declared.fault.Layer.TheVariants.{Ticket, Bay as BayLayer}
 use Rattle.walks.specs.Walk.{Gains}
 use Rattle.bay.specs.Faults.{bay_code, refused}
 use Rattle.bay.specs.Plain.{Plain}
@@ -19,7 +17,7 @@ use Rattle.ticket.specs.declared.line.Line.TheVariants.{End}
 use Rattle.ticket.specs.declared.line.Read.{Read}
 use Rattle.ticket.specs.declared.line.Stage.{Stage}
 use Rattle.ticket_call.specs.Answers.{OfKind, Common, desk, Refused, Routed, LinesAnswer, BayRefused, BayPasses, KindAnswer}
-use Rattle.ticket_call.specs.Faults.{first_told, Told, told, told_by, told_of, at_byte}
+use Rattle.ticket_call.specs.Faults.{Told, told, told_by, at_byte}
 use Rattle.ticket_call.specs.Said.{Said, begins, due, adds, line_causes, Passes, More, Through, LineRefused}
 use Rattle.ticket_call.specs.declared.fault.Refusal.{Refusal}
 
@@ -49,7 +47,7 @@ module _ (A : Algebra) {C : Type 0} (value : C → A.Value) (cost_of : ℤ → C
   refused_not_passed s from t read (inl h) p = not_both (due s) text from read t.byte p.is_read h.0
   refused_not_passed s from t read (inr h) p =
       let e = one_read (due s) text from read h.0 p.is_read h.1 in
-      none≢some _ t p.no_cause (ap (λ r. first_told (line_causes A value cost_of s (length text) from r.line)) e ∙ h.2)
+      none≢some _ t p.no_cause (ap (λ r. first_cause (line_causes A value cost_of s (length text) from r.line)) e ∙ h.2)
 
   final_not_more : (s : Said A.Value) (from : ℕ) (read : Read) → Final s from → Passes A value cost_of text s from read → More read.line → ⊥
   final_not_more s from read (inl h) p m = refused_not_passed s from h.0 read h.1 p
@@ -80,7 +78,7 @@ module _ (A : Algebra) {C : Type 0} (value : C → A.Value) (cost_of : ℤ → C
   one_told s from t u (inr h) (inl k) = absurd (not_both (due s) text from h.0 u.byte h.1 k.0)
   one_told s from t u (inr h) (inr k) =
       let e = one_read (due s) text from k.0 h.0 k.1 h.1 in
-      same_some _ t u h.2 (sym (ap (λ r. first_told (line_causes A value cost_of s (length text) from r.line)) e) ∙ k.2)
+      same_some _ t u h.2 (sym (ap (λ r. first_cause (line_causes A value cost_of s (length text) from r.line)) e) ∙ k.2)
 
 -- what an answer tells
 abbrev pub outcome : Result ℕ BayFault → Result ℕ Code

@@ -1,6 +1,6 @@
 -- The lines of a granted ticket are format lines, card lines, leg lines and the end line, in this order, and the plain bay that
 -- they make has the cards and the legs that they say.
-use Rattle.std.proofs.Common.{◌≡◌, ℕ, suc, ◌+◌, ◌<◌, ◌≤◌, Bool, true, false, cond, not, ◌&&◌, eqb, ltb, ◌⊎◌, List, [], ◌∷◌, ◌++◌, map, length, get_or, drop, ℤ, Some, None, Ok, Err, Option, Result, sym, refl, ap, ◌∙◌, subst, subst₂, inl, inr, add-one, arith, length-append}
+use Rattle.std.proofs.Common.{◌≡◌, ℕ, suc, ◌+◌, ◌<◌, ◌≤◌, Bool, true, false, cond, ◌&&◌, eqb, ◌⊎◌, List, [], ◌∷◌, ◌++◌, map, length, get_or, drop, ℤ, Some, None, Ok, Err, Option, Result, sym, refl, ap, ◌∙◌, subst, subst₂, inl, inr, add-one, arith, length-append}
 use Rattle.std.proofs.lemmas.List.{append_assoc, append-nil, drop_all, flat_map_more}
 use Rattle.std.proofs.lemmas.Bool.{and_from, and_parts, cases_lt, cond-false, cond-true, eqb-true, ltb-false, ne_eqb, not-false, not_from_false}
 use Rattle.std.specs.Option.{option_map}
@@ -30,12 +30,11 @@ use Rattle.ticket.specs.declared.line.Kind.TheVariants as kinds
 use Rattle.ticket.specs.declared.line.Line.{Line}
 use Rattle.ticket.specs.declared.line.Line.TheVariants.{Bay, Format, Card, Leg, End}
 use Rattle.ticket.specs.declared.line.Read.{Read}
-use Rattle.ticket.specs.declared.line.Stage.{Stage}
 use Rattle.ticket.specs.declared.line.Stage.TheVariants.{Start, Formats, Cards, Legs}
 use Rattle.ticket_call.specs.Answers.{OfKind, Common, Memory, desk, LinesAnswer, KindAnswer, Judged, TicketAnswer, of_kind}
-use Rattle.ticket_call.specs.Faults.{first_told, told, at_byte}
+use Rattle.ticket_call.specs.Faults.{told, at_byte}
 use Rattle.ticket_call.specs.Kinds.{delay_of, depth_of}
-use Rattle.ticket_call.specs.Said.{Said, said, begins, due, adds, each_at, line_causes, ticket_entries, Passes, More, Through, Completes}
+use Rattle.ticket_call.specs.Said.{Said, said, begins, due, adds, each_at, line_causes, ticket_entries, More, Through, Completes}
 use Rattle.ticket_laws.specs.Whole.{CardSaid, card_line, leg_line, format_lines, last_cost, cards_said, Whole, WholeAnswer}
 use Rattle.ticket_call.specs.declared.fault.Refusal.{Refusal}
 use Rattle.ticket_call.specs.declared.serve.Granted as granted
@@ -55,7 +54,7 @@ ok_same : {E : Type 0} (a b : ℕ) → ◌≡◌ {A = Result ℕ E} (Ok a) (Ok b
 ok_same a b e = cc
 
 -- a call that no cause holds against
-none_at : (byte : ℕ) (causes : List (Bool × Code)) → first_told (each_at byte causes) ≡ None → first_cause causes ≡ None
+none_at : (byte : ℕ) (causes : List (Bool × Code)) → first_cause (each_at byte causes) ≡ None → first_cause causes ≡ None
 none_at byte causes e = go (first_cause causes) (sym (first_at byte causes) ∙ e)
   where
     go : (o : Option Code) → option_map (told byte) o ≡ None → o ≡ None
@@ -88,7 +87,7 @@ module _ (A : Algebra) {C : Type 0} (value : C → A.Value) (cost_of : ℤ → C
   allowed_leg (Leg a b) h m = (a, b, refl)
   allowed_leg End h m = absurd m
 
-  booked_is : (p : Plain A.Value) (a b byte : ℕ) → first_told (each_at byte (book_causes p a b)) ≡ None → step A value p (Book a b) ≡ with_legs p (p.legs ++ record { from = a; to = b } ∷ [])
+  booked_is : (p : Plain A.Value) (a b byte : ℕ) → first_cause (each_at byte (book_causes p a b)) ≡ None → step A value p (Book a b) ≡ with_legs p (p.legs ++ record { from = a; to = b } ∷ [])
   booked_is p a b byte e = after_none (first_cause (book_causes p a b)) p _ (none_at byte (book_causes p a b) e)
 
   legs_said : (codes : List (List ℕ)) (p : Plain A.Value) (from : ℕ) (lines : List Read) (place : ℕ) (then : Said A.Value) → p.register.size ≤ length codes → 0 < length p.legs →
@@ -98,7 +97,7 @@ module _ (A : Algebra) {C : Type 0} (value : C → A.Value) (cost_of : ℤ → C
       let is = allowed_leg r.line (subst (λ stage. Allowed stage r.line) (leg_line_due codes p h some) t.0.is_read.allowed) t.1 in
       let leg : Ends = record { from = is.0; to = is.1 } in
       let p' : Plain A.Value = with_legs p (p.legs ++ leg ∷ []) in
-      let none = ap (λ l. first_told (line_causes A value cost_of (said codes p) (length text) from l)) (sym is.2) ∙ t.0.no_cause in
+      let none = ap (λ l. first_cause (line_causes A value cost_of (said codes p) (length text) from l)) (sym is.2) ∙ t.0.no_cause in
       let next : adds A value cost_of (said codes p) r.line ≡ said codes p' = ap (adds A value cost_of (said codes p)) is.2 ∙ ap (said codes) (booked_is p is.0 is.1 from none) in
       let rest = legs_said codes p' r.end lines place then h (omega (arith, length-append p.legs (leg ∷ []))) (subst (λ s. Through A value cost_of text s r.end lines place then) next t.2) in
       record {
@@ -117,7 +116,7 @@ module _ (A : Algebra) {C : Type 0} (value : C → A.Value) (cost_of : ℤ → C
     pub size : then.plain.register.size ≡ p.register.size
     pub stand : (a b : ℕ) → standing then.plain.register a b ≡ or_else (cards_said A value cost_of cards a b) (standing p.register a b)
 
-  entered_is : (p : Plain A.Value) (a b : ℕ) (x : C) (byte : ℕ) → first_told (each_at byte (enter_causes p.register a b (A.admits (value x)))) ≡ None →
+  entered_is : (p : Plain A.Value) (a b : ℕ) (x : C) (byte : ℕ) → first_cause (each_at byte (enter_causes p.register a b (A.admits (value x)))) ≡ None →
       step A value p (Enter a b x) ≡ with_register p (entered p.register a b (value x))
   entered_is p a b x byte e = after_none (first_cause (enter_causes p.register a b (A.admits (value x)))) p _ (none_at byte (enter_causes p.register a b (A.admits (value x))) e)
 
@@ -173,8 +172,8 @@ module _ (A : Algebra) {C : Type 0} (value : C → A.Value) (cost_of : ℤ → C
     | inr is ↦ leg_first is.0 is.1
   ]
     where
-      no_cause_at : (l : Line) → r.line ≡ l → first_told (line_causes A value cost_of (said codes p) (length text) from l) ≡ None
-      no_cause_at l e = ap (λ x. first_told (line_causes A value cost_of (said codes p) (length text) from x)) (sym e) ∙ t.0.no_cause
+      no_cause_at : (l : Line) → r.line ≡ l → first_cause (line_causes A value cost_of (said codes p) (length text) from l) ≡ None
+      no_cause_at l e = ap (λ x. first_cause (line_causes A value cost_of (said codes p) (length text) from x)) (sym e) ∙ t.0.no_cause
 
       card_first :
           ((q : Plain A.Value) → q.register.size ≤ length codes → q.legs ≡ [] → Through A value cost_of text (said codes q) r.end lines place then → OrdersSaid codes q (map line_of lines) then) →
@@ -270,7 +269,7 @@ module _ (A : Algebra) {C : Type 0} (value : C → A.Value) (cost_of : ℤ → C
       format_first go_on lt =
           let is = allowed_format r.line (subst (λ stage. Allowed stage r.line) (formats_due codes p lt) t.0.is_read.allowed) in
           let none_at_all = none_holds (line_causes A value cost_of (said codes p) (length text) from (Format is.0 is.1))
-          (ap (λ l. first_told (line_causes A value cost_of (said codes p) (length text) from l)) (sym is.2) ∙ t.0.no_cause) in
+          (ap (λ l. first_cause (line_causes A value cost_of (said codes p) (length text) from l)) (sym is.2) ∙ t.0.no_cause) in
           let number_is : is.0 ≡ length codes = eqb-true is.0 (length codes) (not-false _ none_at_all.0) in
           let longer : length (codes ++ is.1 ∷ []) ≡ suc (length codes) = length-append codes (is.1 ∷ []) ∙ add-one (length codes) in
           let next = ap (adds A value cost_of (said codes p)) is.2 in
@@ -310,7 +309,7 @@ module _ (A : Algebra) {C : Type 0} (value : C → A.Value) (cost_of : ℤ → C
 
     whole_text : text ≡ flat_map line_text (Bay kind n ∷ (map line_of done.lines ++ End ∷ []))
     whole_text =
-        let last_is = ap (λ l. first_told (line_causes A value cost_of then (length text) place l)) (sym done.is_end) ∙ done.passes.no_cause in
+        let last_is = ap (λ l. first_cause (line_causes A value cost_of then (length text) place l)) (sym done.is_end) ∙ done.passes.no_cause in
         let ends_here = ltb-false (place + 6) (length text) (none_holds (line_causes A value cost_of then (length text) place End) last_is).0 in
         let end_is = done.passes.is_read.ends ∙ ap (λ l. place + length (line_text l)) done.is_end in
         let rest : drop place text ≡ line_text End =
