@@ -11,7 +11,8 @@ use Rattle.registers.specs.declared.fault.RegisterFault.TheVariants as rf
 use Rattle.walks.specs.Sheet.{row_at}
 use Rattle.bay.specs.Faults.{bay_code}
 use Rattle.bay.specs.Leg.{no_leg, noted}
-use Rattle.bay.specs.Plain.{Ends, Plain, room_causes}
+use Rattle.bay.specs.Plain.{Plain, room_causes}
+use Rattle.bay.specs.declared.legs.Ends.{Ends}
 use Rattle.bay.specs.Routes.{Looped, Reached, Routed, Unreached, note_of, no_ends}
 use Rattle.bay.specs.Routing.{Beyond, Desk, FoundLoop, Granted, RouteAnswer, TurnedAway}
 use Rattle.bay.specs.Runs.{CallDone, Right, Room, chains_step, costs_step, over, route_notes, with_notes}

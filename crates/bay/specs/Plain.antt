@@ -6,6 +6,7 @@ use Rattle.registers.specs.Meaning.{Meaning, end_causes, enter_causes, withdraw_
 use Rattle.registers.specs.declared.fault.Code.{Code}
 use Rattle.registers.specs.declared.fault.Layer.TheVariants.{Bay}
 use Rattle.bay.specs.Legs.{most_legs, struck}
+use Rattle.bay.specs.declared.legs.Ends.{Ends}
 use Rattle.bay.specs.declared.legs.Leg.{Leg}
 use Rattle.bay.specs.declared.calls.Call.{Call}
 use Rattle.bay.specs.declared.calls.Call.TheVariants.{Enter, Withdraw, Book, Strike, Show, Route}
@@ -14,11 +15,7 @@ use Rattle.bay.specs.declared.calls.Call.TheVariants.{Enter, Withdraw, Book, Str
 abbrev pub row_bytes : ℕ
 row_bytes = 66
 
--- a booked leg: from one format to another
-pub record Ends : Type 0 where
-  pub from : ℕ
-  pub to : ℕ
-
+-- the ends of a booked leg
 abbrev pub ends : Leg → Ends
 ends leg = record { from = leg.from; to = leg.to }
 

@@ -4,7 +4,7 @@ use Rattle.std.specs.Prelude.{◌≡◌, ℕ, ◌<◌, cond, ◌⊎◌, List, []
 use Rattle.costs.specs.Algebra.{Algebra}
 use Rattle.walks.specs.Sheet.{row_of}
 use Rattle.walks.specs.Walk.{path, Walk, cost, Chain, Loop}
-use Rattle.bay.specs.Plain.{Ends}
+use Rattle.bay.specs.declared.legs.Ends.{Ends}
 use Rattle.bay.specs.declared.legs.Note.{Note}
 use Rattle.bay.specs.declared.legs.Note.TheVariants.{NoChain, Chain as ChainOf}
 

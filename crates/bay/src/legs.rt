@@ -17,6 +17,13 @@ pub enum Note {
     Chain(usize),
 }
 
+// The two formats of a leg.
+#[derive(Clone, Copy, Debug, PartialEq, Eq)]
+pub struct Ends {
+    pub from: Format,
+    pub to: Format,
+}
+
 // A chain is wanted between two formats.
 #[derive(Clone, Copy, Debug, PartialEq, Eq)]
 pub struct Leg {

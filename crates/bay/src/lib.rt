@@ -16,4 +16,4 @@ pub use bays::Bay;
 pub use calls::{Answer, Call, Routes, Stopped};
 pub use fault::BayFault;
 pub use law::one_by_one;
-pub use legs::{Leg, Note};
+pub use legs::{Ends, Leg, MOST_LEGS, Note};

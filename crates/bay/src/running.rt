@@ -17,7 +17,7 @@ use std::alloc::{AllocError, Global};
 use walks::{Cell, ROW};
 
 // So many bytes have the rows of all the legs that a bay may have.
-const CHAIN_BYTES: usize = 2112;
+const CHAIN_BYTES: usize = ROW * MOST_LEGS;
 
 impl<C: Cost> Routes<C> {
     // Room for what a route may write.

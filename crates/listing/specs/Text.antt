@@ -9,7 +9,7 @@ use Rattle.registers.specs.declared.fault.Layer.{Layer}
 use Rattle.registers.specs.declared.fault.Layer.TheVariants as layer
 use Rattle.walks.specs.Sheet.{row_at}
 use Rattle.bay.specs.Routes.{no_ends}
-use Rattle.bay.specs.Plain.{Ends}
+use Rattle.bay.specs.declared.legs.Ends.{Ends}
 use Rattle.ticket.specs.declared.line.Kind.{Kind}
 use Rattle.ticket.specs.declared.line.Kind.TheVariants as kind
 use Rattle.ticket_call.specs.Faults.{ticket_code}

@@ -1,7 +1,6 @@
 // The text of an answer, whole.
 ghost use Rattle.std.specs.Prelude.{◌≡◌, map, pos, slice_index_or};
 ghost use Rattle.ticket_call.specs.Answers.{of_lists};
-ghost use Rattle.ticket_call.specs.Ends.{leg_ends};
 ghost use Rattle.listing.specs.Answered.{Answered};
 ghost use Rattle.listing.specs.Output.{Writes, Printed};
 ghost use Rattle.listing.specs.Text.{listing_text, loop_text, refusal_text, answer_text};
@@ -11,7 +10,7 @@ use crate::text::{put_code_line, put_codes, put_leg, row_formats};
 use costs::{Cost, Delay, Depth};
 use ticket::Kind;
 use ticket_call::{
-    FourCc, Granted, LegEnds, MOST_CODES, MOST_LEGS, Refusal, Sheets, TicketCost, route_ticket,
+    Ends, FourCc, Granted, MOST_CODES, MOST_LEGS, Refusal, Sheets, TicketCost, route_ticket,
 };
 
 // The number of a refusal for a loop.
@@ -32,12 +31,12 @@ fn number_at<C: TicketCost>(costs: &[C], k: usize) -> i32
 fn put_listing<C: TicketCost>(
     out: &mut Output,
     codes: &[FourCc; MOST_CODES],
-    ends: &[LegEnds; MOST_LEGS],
+    ends: &[Ends; MOST_LEGS],
     costs: &[C],
     chains: &[u8],
     legs: usize,
 )
-    ensures { Writes out.old out.new (listing_text codes.now (map leg_ends ends.now) (map C.TicketCost.writes costs.now) chains.now legs) }
+    ensures { Writes out.old out.new (listing_text codes.now ends.now (map C.TicketCost.writes costs.now) chains.now legs) }
 {
     for k in 0..legs.min(MOST_LEGS) {
         put_leg(
@@ -79,12 +78,12 @@ fn put_answer(
     out: &mut Output,
     answer: &Result<Granted, Refusal>,
     codes: &[FourCc; MOST_CODES],
-    ends: &[LegEnds; MOST_LEGS],
+    ends: &[Ends; MOST_LEGS],
     delays: &[Delay],
     depths: &[Depth],
     chains: &[u8],
 )
-    ensures { Writes out.old out.new (answer_text codes.now (map leg_ends ends.now) delays.now depths.now chains.now answer.now) }
+    ensures { Writes out.old out.new (answer_text codes.now ends.now delays.now depths.now chains.now answer.now) }
 {
     match answer {
         Ok(granted) => match granted.kind {
@@ -101,12 +100,12 @@ pub fn write_answer(
     place: &mut [u8],
     answer: &Result<Granted, Refusal>,
     codes: &[FourCc; MOST_CODES],
-    ends: &[LegEnds; MOST_LEGS],
+    ends: &[Ends; MOST_LEGS],
     delays: &[Delay],
     depths: &[Depth],
     chains: &[u8],
 ) -> Result<usize, usize>
-    ensures { Printed place.old place.new (answer_text codes.now (map leg_ends ends.now) delays.now depths.now chains.now answer.now) result }
+    ensures { Printed place.old place.new (answer_text codes.now ends.now delays.now depths.now chains.now answer.now) result }
 {
     let mut nothing: [u8; 0] = [];
     let mut count = Output::new(&mut nothing);
@@ -128,10 +127,10 @@ pub fn answer_ticket(
     depth: Sheets<'_, Depth>,
     chains: &mut [u8],
     codes: &mut [FourCc; MOST_CODES],
-    ends: &mut [LegEnds; MOST_LEGS],
+    ends: &mut [Ends; MOST_LEGS],
     place: &mut [u8],
 ) -> Result<usize, usize>
-    ensures { Answered text.now (record { delay = of_lists delay.entry.entries.now delay.entry.table.now delay.entry.costs.now; depth = of_lists depth.entry.entries.now depth.entry.table.now depth.entry.costs.now; common = record { chains = chains.entry.now; codes = codes.old; ends = map leg_ends ends.old } }) (record { delay = of_lists delay.exit.0.now delay.exit.1.0.now delay.exit.1.1.0.now; depth = of_lists depth.exit.0.now depth.exit.1.0.now depth.exit.1.1.0.now; common = record { chains = chains.exit.now; codes = codes.new; ends = map leg_ends ends.new } }) place.old place.new result }
+    ensures { Answered text.now (record { delay = of_lists delay.entry.entries.now delay.entry.table.now delay.entry.costs.now; depth = of_lists depth.entry.entries.now depth.entry.table.now depth.entry.costs.now; common = record { chains = chains.entry.now; codes = codes.old; ends = ends.old } }) (record { delay = of_lists delay.exit.0.now delay.exit.1.0.now delay.exit.1.1.0.now; depth = of_lists depth.exit.0.now depth.exit.1.0.now depth.exit.1.1.0.now; common = record { chains = chains.exit.now; codes = codes.new; ends = ends.new } }) place.old place.new result }
 {
     let Sheets {
         entries,

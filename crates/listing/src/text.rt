@@ -1,12 +1,11 @@
 // The lines of an answer.
 ghost use Rattle.std.specs.Prelude.{◌≡◌, ◌≤◌};
 ghost use Rattle.listing.specs.Output.{Writes};
-ghost use Rattle.ticket_call.specs.Ends.{leg_ends};
 ghost use Rattle.listing.specs.Text.{formats_of, code_text, codes_text, found_text, leg_text, layer_text, code_line};
 
 use crate::output::Output;
 use registers::{Code, Layer};
-use ticket_call::{FourCc, LegEnds, MOST_CODES};
+use ticket_call::{Ends, FourCc, MOST_CODES};
 use walks::ROW;
 
 // The formats of row `k`, as many as its number says.
@@ -67,11 +66,11 @@ pub(crate) fn put_leg(
     out: &mut Output,
     codes: &[FourCc; MOST_CODES],
     k: usize,
-    ends: LegEnds,
+    ends: Ends,
     cost: i32,
     formats: &[u8],
 )
-    ensures { Writes out.old out.new (leg_text codes.now k (leg_ends ends) cost formats.now) }
+    ensures { Writes out.old out.new (leg_text codes.now k ends cost formats.now) }
 {
     out.put(b"(leg ");
     out.put_number(k);

@@ -8,14 +8,14 @@ use listing::answer_ticket;
 use std::alloc::{AllocError, Global};
 use std::io;
 use std::io::{Read, Write};
-use ticket_call::{LegEnds, MOST_BYTES, MOST_CODES, MOST_LEGS, Sheets, TICKET_ENTRIES};
+use ticket_call::{Ends, MOST_BYTES, MOST_CODES, MOST_LEGS, Sheets, TICKET_ENTRIES};
 use walks::{Cell, ROW};
 
 // As many cells as a register of the most formats wants.
 const CELLS: usize = 4096;
 
 // As many bytes as the rows of the most legs have.
-const CHAIN_BYTES: usize = 2112;
+const CHAIN_BYTES: usize = ROW * MOST_LEGS;
 
 // More bytes than any answer has.
 const ANSWER_BYTES: usize = 65_536;
@@ -78,7 +78,7 @@ fn run(rt: &HostRuntime) -> anyhow::Result<()> {
     let mut depth = new_memory(rt.alloc(), Depth { bits: 0 })?;
     let mut chains = [255; CHAIN_BYTES];
     let mut codes = [[0; 4]; MOST_CODES];
-    let mut ends = [LegEnds { from: 0, to: 0 }; MOST_LEGS];
+    let mut ends = [Ends { from: 0, to: 0 }; MOST_LEGS];
     let mut place = repeat(rt.alloc(), 0, ANSWER_BYTES)?;
     let answered = answer_ticket(
         text.as_slice(),

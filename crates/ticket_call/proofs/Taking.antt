@@ -10,7 +10,8 @@ use Rattle.registers.specs.Meaning.{enter_causes, entered}
 use Rattle.registers.specs.declared.fault.Code.{Code}
 use Rattle.registers.specs.declared.fault.Layer.TheVariants.{Ticket}
 use Rattle.bay.specs.Faults.{refused}
-use Rattle.bay.specs.Plain.{Ends, Plain, book_causes, step, with_register, with_legs}
+use Rattle.bay.specs.Plain.{Plain, book_causes, step, with_register, with_legs}
+use Rattle.bay.specs.declared.legs.Ends.{Ends}
 use Rattle.bay.specs.declared.calls.Call.TheVariants.{Enter, Book}
 use Rattle.bay.specs.declared.fault.BayFault.{BayFault}
 use Rattle.ticket.proofs.Places.{read_advances, read_within}

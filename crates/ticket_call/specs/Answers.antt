@@ -10,7 +10,7 @@ use Rattle.walks.specs.declared.cells.Cell.{Cell}
 use Rattle.registers.specs.Fault.{first_cause}
 use Rattle.bay.specs.Routing.{Desk, RouteAnswer}
 use Rattle.bay.specs.declared.fault.BayFault.{BayFault}
-use Rattle.bay.specs.Plain.{Ends}
+use Rattle.bay.specs.declared.legs.Ends.{Ends}
 use Rattle.bay.specs.declared.legs.Leg.{Leg}
 use Rattle.ticket.specs.Grammar.{IsRead, IsRefused}
 use Rattle.ticket.specs.declared.line.Kind.{Kind}

@@ -3,7 +3,8 @@ use Rattle.std.specs.Prelude.{◌≡◌, ℕ, ◌≤◌, false, ◌⊎◌, List,
 use Rattle.costs.specs.Algebra.{Algebra}
 use Rattle.registers.specs.Fault.{code, first_cause}
 use Rattle.registers.specs.declared.fault.Layer.TheVariants.{Ticket}
-use Rattle.bay.specs.Plain.{Ends, Plain}
+use Rattle.bay.specs.Plain.{Plain}
+use Rattle.bay.specs.declared.legs.Ends.{Ends}
 use Rattle.ticket.specs.Grammar.{IsRead, IsRefused}
 use Rattle.ticket.specs.declared.line.Line.TheVariants.{Format, End}
 use Rattle.ticket.specs.declared.line.Read.{Read}

@@ -7,8 +7,8 @@ mod kinds;
 mod orders;
 mod serve;
 
+pub use bay::{Ends, MOST_LEGS};
 pub use fault::{Refusal, TicketFault};
 pub use formats::{FourCc, MOST_CODES};
 pub use kinds::TicketCost;
-pub use orders::{LegEnds, MOST_LEGS};
 pub use serve::{Granted, MOST_BYTES, Sheets, TICKET_ENTRIES, route_ticket};

@@ -1,27 +1,16 @@
 // The lines of cards and legs, and the end line: a card is entered in the bay, and a leg is booked.
-ghost use Rattle.std.specs.Prelude.{◌≡◌, [], length, map, if◌then◌else◌, nat_eq};
+ghost use Rattle.std.specs.Prelude.{◌≡◌, [], length, if◌then◌else◌, nat_eq};
 ghost use Rattle.bay.specs.Bays.{plain};
 ghost use Rattle.bay.specs.Legs.{booked};
 ghost use Rattle.ticket.specs.declared.line.Stage.TheVariants.{Cards, Legs};
-ghost use Rattle.ticket_call.specs.Ends.{leg_ends};
 ghost use Rattle.ticket_call.specs.Steps.{OrderAnswer, OrdersAnswer};
 
 use crate::fault::{Refusal, TicketFault, at_byte};
 use crate::kinds::TicketCost;
-use bay::Bay;
+use bay::{Bay, Ends, MOST_LEGS};
 use costs::Cost;
-use registers::{Format, Register};
+use registers::Register;
 use ticket::{Line, Stage, read_line};
-
-// A ticket has at most so many legs.
-pub const MOST_LEGS: usize = 32;
-
-// The two formats of a leg.
-#[derive(Clone, Copy, Debug, PartialEq, Eq)]
-pub struct LegEnds {
-    pub from: Format,
-    pub to: Format,
-}
 
 // How far the lines are read, and how many legs are booked.
 #[derive(Clone, Copy)]
@@ -42,10 +31,10 @@ fn read_order<C: TicketCost, R: Register<Cost = C>>(
     text: &[u8],
     at: Progress,
     bay: &mut Bay<R>,
-    ends: &mut [LegEnds; MOST_LEGS],
+    ends: &mut [Ends; MOST_LEGS],
 ) -> Result<Option<Progress>, Refusal>
     requires { at.legs ≡ length (booked bay.old.legs) }
-    ensures { OrderAnswer C.Cost.algebra C.Cost.value C.TicketCost.reads text.now at.place (plain C.Cost.algebra C.Cost.value R.Register.holds bay.old) (plain C.Cost.algebra C.Cost.value R.Register.holds bay.new) (map leg_ends ends.old) (map leg_ends ends.new) result }
+    ensures { OrderAnswer C.Cost.algebra C.Cost.value C.TicketCost.reads text.now at.place (plain C.Cost.algebra C.Cost.value R.Register.holds bay.old) (plain C.Cost.algebra C.Cost.value R.Register.holds bay.new) ends.old ends.new result }
 {
     let Progress { place, legs } = at;
     let read = match read_line(text, place, order_stage(legs)) {
@@ -67,7 +56,7 @@ fn read_order<C: TicketCost, R: Register<Cost = C>>(
         }
         Line::Leg { from, to } => {
             let number = at_byte(bay.book(from, to), place)?;
-            ends[number] = LegEnds { from, to };
+            ends[number] = Ends { from, to };
             Ok(Some(Progress {
                 place: read.end,
                 legs: number + 1,
@@ -90,10 +79,10 @@ pub(crate) fn read_orders<C: TicketCost, R: Register<Cost = C>>(
     text: &[u8],
     from: usize,
     bay: &mut Bay<R>,
-    ends: &mut [LegEnds; MOST_LEGS],
+    ends: &mut [Ends; MOST_LEGS],
 ) -> Result<usize, Refusal>
     requires { booked bay.old.legs ≡ [] }
-    ensures { OrdersAnswer C.Cost.algebra C.Cost.value C.TicketCost.reads text.now from (plain C.Cost.algebra C.Cost.value R.Register.holds bay.old) (plain C.Cost.algebra C.Cost.value R.Register.holds bay.new) (map leg_ends ends.old) (map leg_ends ends.new) result }
+    ensures { OrdersAnswer C.Cost.algebra C.Cost.value C.TicketCost.reads text.now from (plain C.Cost.algebra C.Cost.value R.Register.holds bay.old) (plain C.Cost.algebra C.Cost.value R.Register.holds bay.new) ends.old ends.new result }
 {
     let mut at = Progress {
         place: from,

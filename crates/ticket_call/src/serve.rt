@@ -1,18 +1,17 @@
 // A ticket, from its text to its answer.
-ghost use Rattle.std.specs.Prelude.{◌≡◌, ◌≤◌, [], length, map};
+ghost use Rattle.std.specs.Prelude.{◌≡◌, ◌≤◌, [], length};
 ghost use Rattle.registers.specs.Fault.{first_cause};
 ghost use Rattle.bay.specs.Bays.{plain};
 ghost use Rattle.bay.specs.Legs.{booked};
 ghost use Rattle.ticket_call.specs.Answers.{LinesAnswer, KindAnswer, TicketAnswer, of_lists};
-ghost use Rattle.ticket_call.specs.Ends.{leg_ends};
 ghost use Rattle.ticket_call.specs.Faults.{told_of};
 ghost use Rattle.ticket_call.specs.Said.{said, bay_causes};
 
 use crate::fault::{Refusal, TicketFault, at_byte};
 use crate::formats::{FourCc, MOST_CODES, read_formats};
 use crate::kinds::TicketCost;
-use crate::orders::{LegEnds, MOST_LEGS, read_orders};
-use bay::{Bay, BayFault};
+use crate::orders::read_orders;
+use bay::{Bay, BayFault, Ends, MOST_LEGS};
 use costs::{Cost, Delay, Depth};
 use lent::{Entry, List};
 use registers::{LEAST_FORMATS, MOST_FORMATS, Register, RegisterFault};
@@ -74,12 +73,12 @@ fn route_lines<C: TicketCost, R: Register<Cost = C>>(
     costs: &mut [C],
     chains: &mut [u8],
     codes: &mut [FourCc; MOST_CODES],
-    ends: &mut [LegEnds; MOST_LEGS],
+    ends: &mut [Ends; MOST_LEGS],
 ) -> Result<usize, Refusal>
     requires size { (R.Register.holds bay.old.register).size ≡ n }
     requires few { n ≤ 64 }
     requires legs { booked bay.old.legs ≡ [] }
-    ensures { LinesAnswer C.Cost.algebra C.Cost.value C.TicketCost.reads text.now from (record { entries = []; table = table.old; costs = costs.old }) (record { entries = []; table = table.new; costs = costs.new }) (record { chains = chains.entry.now; codes = codes.old; ends = map leg_ends ends.old }) (record { chains = chains.exit.now; codes = codes.new; ends = map leg_ends ends.new }) result (said [] (plain C.Cost.algebra C.Cost.value R.Register.holds bay.old)) }
+    ensures { LinesAnswer C.Cost.algebra C.Cost.value C.TicketCost.reads text.now from (record { entries = []; table = table.old; costs = costs.old }) (record { entries = []; table = table.new; costs = costs.new }) (record { chains = chains.entry.now; codes = codes.old; ends = ends.old }) (record { chains = chains.exit.now; codes = codes.new; ends = ends.new }) result (said [] (plain C.Cost.algebra C.Cost.value R.Register.holds bay.old)) }
 {
     let orders = read_formats::<C>(text, from, n, codes)?;
     let end = read_orders(text, orders, bay, ends)?;
@@ -96,9 +95,9 @@ fn serve<C: TicketCost>(
     costs: &mut [C],
     chains: &mut [u8],
     codes: &mut [FourCc; MOST_CODES],
-    ends: &mut [LegEnds; MOST_LEGS],
+    ends: &mut [Ends; MOST_LEGS],
 ) -> Result<usize, Refusal>
-    ensures { KindAnswer C.Cost.algebra C.Cost.value C.TicketCost.reads text.now from (record { entries = entries.entry.now; table = table.old; costs = costs.old }) (record { entries = entries.exit.now; table = table.new; costs = costs.new }) (record { chains = chains.entry.now; codes = codes.old; ends = map leg_ends ends.old }) (record { chains = chains.exit.now; codes = codes.new; ends = map leg_ends ends.new }) result n }
+    ensures { KindAnswer C.Cost.algebra C.Cost.value C.TicketCost.reads text.now from (record { entries = entries.entry.now; table = table.old; costs = costs.old }) (record { entries = entries.exit.now; table = table.new; costs = costs.new }) (record { chains = chains.entry.now; codes = codes.old; ends = ends.old }) (record { chains = chains.exit.now; codes = codes.new; ends = ends.new }) result n }
 {
     judge_bay(n, entries.len())?;
     let mut bay = Bay::new(List::new(n, &mut entries[0..TICKET_ENTRIES]));
@@ -113,9 +112,9 @@ pub fn route_ticket(
     depth: Sheets<'_, Depth>,
     chains: &mut [u8],
     codes: &mut [FourCc; MOST_CODES],
-    ends: &mut [LegEnds; MOST_LEGS],
+    ends: &mut [Ends; MOST_LEGS],
 ) -> Result<Granted, Refusal>
-    ensures { TicketAnswer text.now (record { delay = of_lists delay.entry.entries.now delay.entry.table.now delay.entry.costs.now; depth = of_lists depth.entry.entries.now depth.entry.table.now depth.entry.costs.now; common = record { chains = chains.entry.now; codes = codes.old; ends = map leg_ends ends.old } }) (record { delay = of_lists delay.exit.0.now delay.exit.1.0.now delay.exit.1.1.0.now; depth = of_lists depth.exit.0.now depth.exit.1.0.now depth.exit.1.1.0.now; common = record { chains = chains.exit.now; codes = codes.new; ends = map leg_ends ends.new } }) result }
+    ensures { TicketAnswer text.now (record { delay = of_lists delay.entry.entries.now delay.entry.table.now delay.entry.costs.now; depth = of_lists depth.entry.entries.now depth.entry.table.now depth.entry.costs.now; common = record { chains = chains.entry.now; codes = codes.old; ends = ends.old } }) (record { delay = of_lists delay.exit.0.now delay.exit.1.0.now delay.exit.1.1.0.now; depth = of_lists depth.exit.0.now depth.exit.1.0.now depth.exit.1.1.0.now; common = record { chains = chains.exit.now; codes = codes.new; ends = ends.new } }) result }
 {
     if text.len() > MOST_BYTES {
         return Err(Refusal {

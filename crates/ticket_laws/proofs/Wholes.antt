@@ -20,7 +20,7 @@ use Rattle.bay.specs.Routes.{Routed}
 use Rattle.bay.specs.Routing.{Granted, RouteAnswer}
 use Rattle.bay.specs.declared.calls.Call.TheVariants.{Enter, Book}
 use Rattle.bay.specs.declared.fault.BayFault.{BayFault}
-use Rattle.bay.specs.Plain.{Ends}
+use Rattle.bay.specs.declared.legs.Ends.{Ends}
 use Rattle.bay.specs.declared.legs.Leg as booked
 use Rattle.lent.specs.Lent.{begun, size_fits}
 use Rattle.lent.specs.List.{or_else}

@@ -9,7 +9,7 @@ use Rattle.lent.specs.List.{or_else}
 use Rattle.walks.specs.Sheet.{row_at}
 use Rattle.walks.specs.Walk.{Gains}
 use Rattle.bay.specs.Routes.{Routed}
-use Rattle.bay.specs.Plain.{Ends}
+use Rattle.bay.specs.declared.legs.Ends.{Ends}
 use Rattle.ticket.specs.Grammar.{line_text}
 use Rattle.ticket.specs.declared.line.Kind.{Kind}
 use Rattle.ticket.specs.declared.line.Kind.TheVariants as kind

@@ -1,7 +1,7 @@
 // Cases that are known to be hard, and refusals of the bay.
 use crate::kind::Kind;
-use crate::route::{Card, Ends, Job, repeat, route_both};
-use bay::{Bay, BayFault, Note};
+use crate::route::{Card, Job, repeat, route_both};
+use bay::{Bay, BayFault, Ends, Note};
 use costs::{Cost, Delay, Depth};
 use lent::Matrix;
 use registers::{Layer, Register};

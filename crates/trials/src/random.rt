@@ -1,7 +1,8 @@
 // Pseudo-random jobs of a few formats.
 use crate::dice::Dice;
 use crate::kind::Kind;
-use crate::route::{Card, Ends, Job, route_both};
+use crate::route::{Card, Job, route_both};
+use bay::Ends;
 use costs::{Cost, Delay, Depth};
 use std::alloc::{AllocError, Global};
 

@@ -1,6 +1,6 @@
 // Routes legs over the same cards in a matrix and in a list, and checks what the bay wrote against the cards.
 use crate::kind::Kind;
-use bay::{Bay, BayFault, Note};
+use bay::{Bay, BayFault, Ends, Note};
 use costs::Cost;
 use lent::{Entry, List, Matrix};
 use registers::Register;
@@ -12,12 +12,6 @@ pub struct Card {
     pub from: usize,
     pub to: usize,
     pub number: i32,
-}
-
-#[derive(Clone, Copy)]
-pub struct Ends {
-    pub from: usize,
-    pub to: usize,
 }
 
 // Cards to enter and legs to route; whether chains are to be printed too.

@@ -1,5 +1,5 @@
 -- Every answer that the sample ticket may have prints the same listing.
-use Rattle.std.proofs.Common.{◌≡◌, ℕ, ◌<◌, ◌≤◌, true, false, ◌⊎◌, List, [], ◌∷◌, ◌++◌, map, length, get_or, take, drop, ℤ, pos, None, Ok, Err, codes, Result, sym, refl, ap, ◌∙◌, subst, inl, inr, arith}
+use Rattle.std.proofs.Common.{◌≡◌, ℕ, ◌≤◌, List, [], ◌∷◌, ◌++◌, map, length, get_or, take, drop, ℤ, pos, None, Ok, Err, codes, Result, sym, ap, ◌∙◌, subst, inl, inr, arith}
 use Rattle.std.proofs.lemmas.List.{get_or-map}
 use Rattle.std.proofs.lemmas.Bool.{cond-false, le-ltb}
 use Rattle.std.specs.Fmt.{digits}
@@ -7,26 +7,24 @@ use Rattle.costs.specs.Delay.{delay}
 use Rattle.costs.specs.declared.delay.Delay.{Delay}
 use Rattle.registers.specs.Fault.{first_cause}
 use Rattle.walks.specs.Sheet.{row_at, row_of}
-use Rattle.bay.specs.Plain.{Plain, room_causes}
+use Rattle.bay.specs.Plain.{room_causes}
 use Rattle.bay.specs.Routing.{RouteAnswer}
 use Rattle.bay.specs.declared.fault.BayFault.{BayFault}
-use Rattle.bay.specs.Plain.{Ends}
+use Rattle.bay.specs.declared.legs.Ends.{Ends}
 use Rattle.bay.specs.declared.legs.Leg.{Leg}
-use Rattle.ticket.specs.declared.line.Kind.{Kind}
 use Rattle.ticket.specs.declared.line.Kind.TheVariants as kind
 use Rattle.ticket.specs.declared.line.Line.{Line}
 use Rattle.ticket.specs.declared.line.Line.TheVariants.{Bay}
 use Rattle.ticket.specs.declared.line.Stage.TheVariants.{Start}
-use Rattle.ticket_call.specs.Answers.{OfKind, Common, Memory, desk, TicketAnswer, HasBay, Judged, KindAnswer, LinesAnswer, of_kind}
+use Rattle.ticket_call.specs.Answers.{Memory, desk, TicketAnswer, HasBay, Judged, KindAnswer, LinesAnswer, of_kind}
 use Rattle.ticket_call.specs.Faults.{told_by, at_byte}
 use Rattle.ticket_call.specs.Kinds.{delay_of}
-use Rattle.ticket_call.specs.Said.{Said, begins, in_front, bay_causes, Passes}
+use Rattle.ticket_call.specs.Said.{begins, in_front, Passes}
 use Rattle.ticket_call.specs.declared.fault.Refusal.{Refusal}
 use Rattle.ticket_call.specs.declared.serve.Granted.{Granted}
 use Rattle.ticket_laws.proofs.Deciding.{one_read, not_both, one_way, refused_not_passed, none≢some, looped_gains}
-use Rattle.listing.specs.Answered.{Answered}
 use Rattle.listing.specs.Output.{Printed}
-use Rattle.listing.specs.Text.{listing_text, legs_text, leg_text, formats_of, answer_text, pieces}
+use Rattle.listing.specs.Text.{listing_text, leg_text, formats_of, answer_text, pieces}
 use Rattle.worked.specs.Sample.{sample_ticket, sample_listing, Room, SampleAnswered}
 use Rattle.worked.proofs.SampleLines.{bay_read, bay_is_read, sample_said, sample_completes}
 use Rattle.worked.proofs.SampleRoute.{card, calm, first_leg, second_leg}

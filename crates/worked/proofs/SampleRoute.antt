@@ -1,13 +1,12 @@
 -- The route of the sample ticket: its first leg has one chain that costs least, and its second has none.
-use Rattle.std.proofs.Common.{◌≡◌, ℕ, Bool, true, false, ◌&&◌, ◌||◌, eqb, ◌⊎◌, List, [], ◌∷◌, ◌++◌, ℤ, pos, ◌<ℤ◌, is_some, Option, sym, refl, ap, ◌∙◌, subst, inl, inr, arith}
+use Rattle.std.proofs.Common.{◌≡◌, ℕ, Bool, true, false, ◌&&◌, ◌||◌, eqb, ◌⊎◌, List, [], ◌∷◌, ◌++◌, ℤ, pos, ◌<ℤ◌, is_some, Option, sym, refl, ap, ◌∙◌, subst, inl, inr}
 use Rattle.std.proofs.lemmas.Bool.{false≢true, or_cases, eqb-true}
 use Rattle.costs.specs.Delay.{delay}
 use Rattle.registers.specs.Meaning.{standing}
 use Rattle.walks.specs.Sheet.{row_of}
-use Rattle.walks.specs.Walk.{path, Absent, Distinct, Walk, cost, Chain, Gains}
+use Rattle.walks.specs.Walk.{path, Absent, Distinct, Walk, cost, Gains}
 use Rattle.bay.specs.Routes.{Unreached, Reached}
-use Rattle.bay.specs.Plain.{Ends}
-use Rattle.walks.proofs.CaseProofs.{Pass, passes_value, table_passes, heights, rising, no_gain}
+use Rattle.walks.proofs.CaseProofs.{passes_value, table_passes, heights, rising, no_gain}
 use Rattle.worked.proofs.SampleLines.{sample_said}
 
 -- the standing cards

@@ -1,10 +1,7 @@
 use Rattle.std.proofs.Common.{◌≡◌, ℕ, ◌+◌, min, List, ◌++◌, map, get_or, ℤ, pos, sym, ap, ◌∙◌, add-one, arith, w32, SFits, rules}
 use Rattle.std.proofs.lemmas.Int.{to_z-of_z}
-use lib.ListN.{get_or-map}
 use Rattle.bay.specs.Routes.{no_ends}
-use Rattle.bay.specs.Plain.{Ends}
-use Rattle.ticket_call.specs.Ends.{leg_ends}
-use Rattle.ticket_call.specs.declared.orders.LegEnds.{LegEnds}
+use Rattle.bay.specs.declared.legs.Ends.{Ends}
 use Rattle.listing.specs.Text.{legs_text, leg_text, formats_of}
 use Rattle.listing.proofs.Writing.{writes_both, writes_is, writes_none}
 use Rattle.listing.proofs.answer.put_listing.Goals as goal
@@ -20,19 +17,17 @@ pub loop-k-preserved : goal.loop-k-preserved
 loop-k-preserved g c =
     let fits : SFits w32 c.number_at.result = search rules in
     let numbers = map g.C.TicketCost.writes c.args.costs.now in
-    let ends = map leg_ends c.args.ends.now in
-    let none : LegEnds = record { from = 0; to = 0 } in
-    let leg = leg_ends (get_or c.args.ends.now c.loop-k.k none) in
+    let ends = c.args.ends.now in
+    let leg = get_or ends c.loop-k.k no_ends in
     writes_is c.args.out.now c.put_leg.new.out _ _ (legs_more c.args.codes.now ends numbers c.args.chains.now c.loop-k.k)
     (writes_both c.args.out.now c.loop-k.out c.put_leg.new.out _ _ c.loop-k.invariant
     (writes_is c.loop-k.out c.put_leg.new.out _ _
     (ap (λ z. leg_text c.args.codes.now c.loop-k.k leg z c.row_formats.result.now) (to_z-of_z w32 c.number_at.result fits ∙ c.number_at.ensures)
-    ∙ ap (leg_text c.args.codes.now c.loop-k.k leg (get_or numbers c.loop-k.k (pos 0))) c.row_formats.ensures
-    ∙ ap (λ e. leg_text c.args.codes.now c.loop-k.k e (get_or numbers c.loop-k.k (pos 0)) (formats_of c.args.chains.now c.loop-k.k)) (sym (get_or-map leg_ends c.args.ends.now c.loop-k.k none)))
+    ∙ ap (leg_text c.args.codes.now c.loop-k.k leg (get_or numbers c.loop-k.k (pos 0))) c.row_formats.ensures)
     c.put_leg.ensures))
 
 pub returns : goal.returns
 returns g c =
     let all : c.loop-k.k ≡ min c.args.legs 32 = omega (arith, c.loop-k.auto.k-end, c.loop-k-test.false, c.min-k-end.ensures) in
-    writes_both _ _ _ _ _ (writes_is _ _ _ _ (ap (legs_text c.args.codes.now (map leg_ends c.args.ends.now) (map g.C.TicketCost.writes c.args.costs.now) c.args.chains.now) all) c.loop-k.invariant)
+    writes_both _ _ _ _ _ (writes_is _ _ _ _ (ap (legs_text c.args.codes.now c.args.ends.now (map g.C.TicketCost.writes c.args.costs.now) c.args.chains.now) all) c.loop-k.invariant)
     (writes_both _ _ _ _ _ c.put.ensures c.put-2.ensures)

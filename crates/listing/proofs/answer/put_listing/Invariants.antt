@@ -1,9 +1,8 @@
 -- The lines of the first k legs.
 use Rattle.std.proofs.Common.{map}
-use Rattle.ticket_call.specs.Ends.{leg_ends}
 use Rattle.listing.specs.Output.{Writes}
 use Rattle.listing.specs.Text.{legs_text}
 use Rattle.listing.proofs.answer.put_listing.Given as goal
 
 abbrev pub invariant-loop-k : goal.invariant-loop-k
-invariant-loop-k g l = Writes l.initial.out l.out (legs_text l.codes (map leg_ends l.ends) (map g.C.TicketCost.writes l.costs) l.chains l.k)
+invariant-loop-k g l = Writes l.initial.out l.out (legs_text l.codes l.ends (map g.C.TicketCost.writes l.costs) l.chains l.k)

@@ -1,6 +1,5 @@
-use Rattle.std.proofs.Common.{◌≡◌, ℕ, [], map, IfOk, Ok, Result, sym, refl, ◌∙◌, arith, w32, SFits, rules}
+use Rattle.std.proofs.Common.{◌≡◌, ℕ, [], IfOk, Ok, Result, sym, refl, ◌∙◌, arith, w32, SFits, rules}
 use lib.ListN.{length-map}
-use Rattle.std.proofs.lemmas.List.{map-set}
 use Rattle.std.proofs.lemmas.Int.{to_z-of_z}
 use Rattle.std.proofs.lemmas.Result.{MatchResult-at_ok, err_from_is_err_and}
 use Rattle.registers.specs.Meaning.{enter_causes}
@@ -8,7 +7,6 @@ use Rattle.bay.specs.Bays.{plain}
 use Rattle.bay.specs.Legs.{booked}
 use Rattle.bay.specs.Plain.{book_causes, ends}
 use Rattle.bay.specs.declared.fault.BayFault.{BayFault}
-use Rattle.ticket_call.specs.Ends.{leg_ends}
 use Rattle.ticket_call.proofs.Taking.{refused_at, granted_at, orders_due, unfit_line, card_taken, card_refused, leg_taken, leg_refused, book_room}
 use Rattle.ticket_call.proofs.orders.read_order.Goals as goal
 
@@ -38,7 +36,7 @@ returns-in_ok-at_byte-in-Card g c =
     let legs = c.requires ∙ sym (length-map (booked c.args.bay.now.legs) ends) in
     let granted = granted_at c.args.at.place c.enter.result tt (enter_causes p.register c.in-Card.from c.in-Card.to (g.C.Cost.algebra.admits (g.C.Cost.value c.of_number.result))) (sym c.at_byte.ensures ∙ c.in_ok-at_byte-in-Card.was) c.enter.ensures.answer in
     card_taken g.C.Cost.algebra g.C.Cost.value g.C.TicketCost.reads c.args.text.now p (plain g.C.Cost.algebra g.C.Cost.value g.R.Register.holds c.enter.new.self) c.args.at.place c.order_stage.result c.args.at.legs legs c.order_stage.ensures
-    c.in-Ok.read c.in-Ok.ensures.line (map leg_ends c.args.ends.now) (map leg_ends c.args.ends.now) c.in-Card.from c.in-Card.to c.in-Card.cost c.of_number.result c.in-Card.is cost granted.1 granted.2 c.enter.ensures.after refl
+    c.in-Ok.read c.in-Ok.ensures.line c.args.ends.now c.args.ends.now c.in-Card.from c.in-Card.to c.in-Card.cost c.of_number.result c.in-Card.is cost granted.1 granted.2 c.enter.ensures.after refl
 
 pub returns-in_err-number-in-Leg : goal.returns-in_err-number-in-Leg
 returns-in_err-number-in-Leg g c =
@@ -65,5 +63,5 @@ returns-in_ok-number-in-Leg g c =
     let legs = c.requires ∙ sym (length-map (booked c.args.bay.now.legs) ends) in
     let granted = granted_at c.args.at.place c.book.result c.in_ok-number-in-Leg.number (book_causes p c.in-Leg.from c.in-Leg.to) (sym c.at_byte-in-Leg.ensures ∙ c.in_ok-number-in-Leg.was) c.book.ensures.answer in
     leg_taken g.C.Cost.algebra g.C.Cost.value g.C.TicketCost.reads c.args.text.now p (plain g.C.Cost.algebra g.C.Cost.value g.R.Register.holds c.book.new.self) c.args.at.place c.order_stage.result c.args.at.legs legs c.order_stage.ensures
-    c.in-Ok.read c.in-Ok.ensures.line (map leg_ends c.args.ends.now) _ c.in-Leg.from c.in-Leg.to c.in_ok-number-in-Leg.number c.in-Leg.is granted.1 granted.2 c.book.ensures.after
-    (number_is c.book.result c.in_ok-number-in-Leg.number _ granted.0 c.book.ensures.number ∙ sym (length-map (booked c.args.bay.now.legs) ends)) (map-set leg_ends c.args.ends.now _ _)
+    c.in-Ok.read c.in-Ok.ensures.line c.args.ends.now _ c.in-Leg.from c.in-Leg.to c.in_ok-number-in-Leg.number c.in-Leg.is granted.1 granted.2 c.book.ensures.after
+    (number_is c.book.result c.in_ok-number-in-Leg.number _ granted.0 c.book.ensures.number ∙ sym (length-map (booked c.args.bay.now.legs) ends)) refl

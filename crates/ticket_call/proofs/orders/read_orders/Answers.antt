@@ -4,7 +4,6 @@ use Rattle.std.proofs.lemmas.Result.{err_from_is_err_and}
 use Rattle.bay.specs.Bays.{plain}
 use Rattle.bay.specs.Legs.{booked}
 use Rattle.bay.specs.Plain.{ends}
-use Rattle.ticket_call.specs.Ends.{leg_ends}
 use Rattle.ticket_call.specs.Faults.{told_by}
 use Rattle.ticket_call.specs.Steps.{OrderAnswer, OrderTaken}
 use Rattle.ticket_call.proofs.Taking.{orders_none, orders_more, orders_stop, orders_complete, order_advances}
@@ -13,7 +12,7 @@ use Rattle.ticket_call.proofs.orders.read_orders.Goals as goal
 
 pub loop-next-init : goal.loop-next-init
 loop-next-init g c =
-    orders_none g.C.Cost.algebra g.C.Cost.value g.C.TicketCost.reads c.args.text.now c.args.from (plain g.C.Cost.algebra g.C.Cost.value g.R.Register.holds c.args.bay.now) (map leg_ends c.args.ends.now) (ap (map ends) c.requires)
+    orders_none g.C.Cost.algebra g.C.Cost.value g.C.TicketCost.reads c.args.text.now c.args.from (plain g.C.Cost.algebra g.C.Cost.value g.R.Register.holds c.args.bay.now) c.args.ends.now (ap (map ends) c.requires)
 
 pub read_order-requires : goal.read_order-requires
 read_order-requires g c = c.loop-next.invariant.legs_are ∙ length-map (booked c.loop-next.bay.legs) ends
@@ -23,32 +22,32 @@ returns-in_err-next g c =
     let q = err_from_is_err_and c.from_residual.result c.from_residual.ensures.1 in
     rw (q.1, q.2)
     (orders_stop g.C.Cost.algebra g.C.Cost.value g.C.TicketCost.reads c.args.text.now c.args.from
-    (plain g.C.Cost.algebra g.C.Cost.value g.R.Register.holds c.args.bay.now) (plain g.C.Cost.algebra g.C.Cost.value g.R.Register.holds c.loop-next.bay) (map leg_ends c.args.ends.now) (map leg_ends c.loop-next.ends) c.loop-next.at c.loop-next.invariant
+    (plain g.C.Cost.algebra g.C.Cost.value g.R.Register.holds c.args.bay.now) (plain g.C.Cost.algebra g.C.Cost.value g.R.Register.holds c.loop-next.bay) c.args.ends.now c.loop-next.ends c.loop-next.at c.loop-next.invariant
     (told_by c.in_err-next.field-0.0) c.in_err-next.ensures)
 
 taken_here : (g : Over) (c : goal.In-Some g) →
     OrderTaken g.C.Cost.algebra g.C.Cost.value g.C.TicketCost.reads c.args.text.now c.loop-next.at.place (plain g.C.Cost.algebra g.C.Cost.value g.R.Register.holds c.loop-next.bay)
-    (plain g.C.Cost.algebra g.C.Cost.value g.R.Register.holds c.read_order.new.bay) (map leg_ends c.loop-next.ends) (map leg_ends c.read_order.new.ends) c.in-Some.next
+    (plain g.C.Cost.algebra g.C.Cost.value g.R.Register.holds c.read_order.new.bay) c.loop-next.ends c.read_order.new.ends c.in-Some.next
 taken_here g c =
     subst (λ o. OrderAnswer g.C.Cost.algebra g.C.Cost.value g.C.TicketCost.reads c.args.text.now c.loop-next.at.place (plain g.C.Cost.algebra g.C.Cost.value g.R.Register.holds c.loop-next.bay)
-    (plain g.C.Cost.algebra g.C.Cost.value g.R.Register.holds c.read_order.new.bay) (map leg_ends c.loop-next.ends) (map leg_ends c.read_order.new.ends) (Ok o)) c.in-Some.is c.in_ok-next.ensures
+    (plain g.C.Cost.algebra g.C.Cost.value g.R.Register.holds c.read_order.new.bay) c.loop-next.ends c.read_order.new.ends (Ok o)) c.in-Some.is c.in_ok-next.ensures
 
 pub loop-next-smaller : goal.loop-next-smaller
 loop-next-smaller g c =
     let on = order_advances g.C.Cost.algebra g.C.Cost.value g.C.TicketCost.reads c.args.text.now c.loop-next.at.place (plain g.C.Cost.algebra g.C.Cost.value g.R.Register.holds c.loop-next.bay)
-    (plain g.C.Cost.algebra g.C.Cost.value g.R.Register.holds c.read_order.new.bay) (map leg_ends c.loop-next.ends) (map leg_ends c.read_order.new.ends) c.in-Some.next (taken_here g c) in
+    (plain g.C.Cost.algebra g.C.Cost.value g.R.Register.holds c.read_order.new.bay) c.loop-next.ends c.read_order.new.ends c.in-Some.next (taken_here g c) in
     omega (arith, on.0, on.1)
 
 pub loop-next-preserved : goal.loop-next-preserved
 loop-next-preserved g c =
     orders_more g.C.Cost.algebra g.C.Cost.value g.C.TicketCost.reads c.args.text.now c.args.from
-    (plain g.C.Cost.algebra g.C.Cost.value g.R.Register.holds c.args.bay.now) (plain g.C.Cost.algebra g.C.Cost.value g.R.Register.holds c.loop-next.bay) (map leg_ends c.args.ends.now) (map leg_ends c.loop-next.ends) c.loop-next.at c.loop-next.invariant
-    (plain g.C.Cost.algebra g.C.Cost.value g.R.Register.holds c.read_order.new.bay) (map leg_ends c.read_order.new.ends) c.in-Some.next (length-map c.args.ends.now leg_ends ∙ c.told-ends) (taken_here g c)
+    (plain g.C.Cost.algebra g.C.Cost.value g.R.Register.holds c.args.bay.now) (plain g.C.Cost.algebra g.C.Cost.value g.R.Register.holds c.loop-next.bay) c.args.ends.now c.loop-next.ends c.loop-next.at c.loop-next.invariant
+    (plain g.C.Cost.algebra g.C.Cost.value g.R.Register.holds c.read_order.new.bay) c.read_order.new.ends c.in-Some.next c.told-ends (taken_here g c)
 
 pub returns : goal.returns
 returns g c =
     orders_complete g.C.Cost.algebra g.C.Cost.value g.C.TicketCost.reads c.args.text.now c.args.from
-    (plain g.C.Cost.algebra g.C.Cost.value g.R.Register.holds c.args.bay.now) (plain g.C.Cost.algebra g.C.Cost.value g.R.Register.holds c.loop-next.bay) (map leg_ends c.args.ends.now) (map leg_ends c.loop-next.ends) c.loop-next.at c.loop-next.invariant
-    (plain g.C.Cost.algebra g.C.Cost.value g.R.Register.holds c.read_order.new.bay) (map leg_ends c.read_order.new.ends)
+    (plain g.C.Cost.algebra g.C.Cost.value g.R.Register.holds c.args.bay.now) (plain g.C.Cost.algebra g.C.Cost.value g.R.Register.holds c.loop-next.bay) c.args.ends.now c.loop-next.ends c.loop-next.at c.loop-next.invariant
+    (plain g.C.Cost.algebra g.C.Cost.value g.R.Register.holds c.read_order.new.bay) c.read_order.new.ends
     (subst (λ o. OrderAnswer g.C.Cost.algebra g.C.Cost.value g.C.TicketCost.reads c.args.text.now c.loop-next.at.place (plain g.C.Cost.algebra g.C.Cost.value g.R.Register.holds c.loop-next.bay)
-    (plain g.C.Cost.algebra g.C.Cost.value g.R.Register.holds c.read_order.new.bay) (map leg_ends c.loop-next.ends) (map leg_ends c.read_order.new.ends) (Ok o)) c.in_default.is c.in_ok-next.ensures)
+    (plain g.C.Cost.algebra g.C.Cost.value g.R.Register.holds c.read_order.new.bay) c.loop-next.ends c.read_order.new.ends (Ok o)) c.in_default.is c.in_ok-next.ensures)
