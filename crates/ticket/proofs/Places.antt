@@ -8,6 +8,7 @@ use Rattle.ticket.specs.Rests.{Rest, over, after_byte, line_rest}
 use Rattle.ticket.specs.declared.line.Line.{Line}
 use Rattle.ticket.specs.declared.line.Line.TheVariants.{Bay, Format, Card, Leg, End}
 use Rattle.ticket.specs.declared.line.Read.{Read}
+use Rattle.ticket.specs.declared.line.Unfit.{Unfit}
 use Rattle.ticket.specs.declared.line.Stage.{Stage}
 use Rattle.ticket.proofs.Runs.{run, not_dead}
 use Rattle.ticket.proofs.Lines.{complete}
@@ -105,14 +106,14 @@ err_not_before text from stage near far l g h = elim g.here [
 ]
 
 -- There is one answer alone.
-pub one_answer : (stage : Stage) (text : List ℕ) (from : ℕ) (r s : Result Read ℕ) → ReadLine stage text from r → ReadLine stage text from s → r ≡ s
+pub one_answer : (stage : Stage) (text : List ℕ) (from : ℕ) (r s : Result Read Unfit) → ReadLine stage text from r → ReadLine stage text from s → r ≡ s
 one_answer stage text from (Ok a) (Ok b) g h = ap Ok (ok_is text from stage a b g h)
-one_answer stage text from (Ok a) (Err p) g h = absurd (ok_not_err text from stage a p g h)
-one_answer stage text from (Err p) (Ok b) g h = absurd (ok_not_err text from stage b p h g)
-one_answer stage text from (Err p) (Err q) g h = elim (cases_order p q) [
-  | inl e ↦ ap Err e
+one_answer stage text from (Ok a) (Err p) g h = absurd (ok_not_err text from stage a p.byte g h)
+one_answer stage text from (Err p) (Ok b) g h = absurd (ok_not_err text from stage b p.byte h g)
+one_answer stage text from (Err p) (Err q) g h = elim (cases_order p.byte q.byte) [
+  | inl e ↦ ap (λ byte. Err (record { byte = byte })) e
   | inr d ↦ elim d [
-    | inl l ↦ absurd (err_not_before text from stage p q l g h)
-    | inr l ↦ absurd (err_not_before text from stage q p l h g)
+    | inl l ↦ absurd (err_not_before text from stage p.byte q.byte l g h)
+    | inr l ↦ absurd (err_not_before text from stage q.byte p.byte l h g)
   ]
 ]

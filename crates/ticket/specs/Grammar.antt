@@ -11,6 +11,7 @@ use Rattle.ticket.specs.declared.line.Line.TheVariants.{Bay, Format, Card, Leg, 
 use Rattle.ticket.specs.declared.line.Stage.{Stage}
 use Rattle.ticket.specs.declared.line.Stage.TheVariants.{Start, Formats, Cards, Legs}
 use Rattle.ticket.specs.declared.line.Read.{Read}
+use Rattle.ticket.specs.declared.line.Unfit.{Unfit}
 
 abbrev pub kind_text : Kind → List ℕ
 kind_text Delay = codes "delay"
@@ -111,10 +112,10 @@ pub record IsRefused (stage : Stage) (text : List ℕ) (from place : ℕ) : Type
   pub before : Unfinished stage (part text from place)
   pub here : (place ≡ length text) ⊎ ((from ≤ place) × (place < length text) × (Fits stage (part text from (place + 1)) → ⊥))
 
-abbrev pub ReadLine : Stage → List ℕ → ℕ → Result Read ℕ → Type 0
+abbrev pub ReadLine : Stage → List ℕ → ℕ → Result Read Unfit → Type 0
 ReadLine stage text from (Ok read) = IsRead stage text from read
-ReadLine stage text from (Err place) = IsRefused stage text from place
+ReadLine stage text from (Err unfit) = IsRefused stage text from unfit.byte
 
 -- no other answer does
-abbrev pub Alone : Stage → List ℕ → ℕ → Result Read ℕ → Type 0
-Alone stage text from r = (s : Result Read ℕ) → ReadLine stage text from s → s ≡ r
+abbrev pub Alone : Stage → List ℕ → ℕ → Result Read Unfit → Type 0
+Alone stage text from r = (s : Result Read Unfit) → ReadLine stage text from s → s ≡ r

@@ -6,6 +6,6 @@ mod reader;
 mod sort;
 mod words;
 
-pub use line::{Kind, Line, Read, Stage};
+pub use line::{Kind, Line, Read, Stage, Unfit};
 pub use reader::read_line;
 pub use words::same_bytes;

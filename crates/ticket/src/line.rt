@@ -35,3 +35,10 @@ pub struct Read {
     pub number_place: usize,
     pub code_place: usize,
 }
+
+// No line was read: the first byte with which no allowed line goes on, or the length of the text, where it ends before the
+// line does.
+#[derive(Clone, Copy, Debug, PartialEq, Eq)]
+pub struct Unfit {
+    pub byte: usize,
+}

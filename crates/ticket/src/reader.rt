@@ -5,7 +5,7 @@ ghost use Rattle.ticket.specs.declared.reader.State.TheVariants.{InWord, InKind,
 ghost use Rattle.ticket.specs.Grammar.{too_large, line_text, Coded, number_begins, code_begins, ReadLine, Alone};
 ghost use Rattle.ticket.specs.Rests.{line_rest, to_come, left, after_byte, begun_at, takes_digit, with_digit, takes_letter, with_letter};
 
-use crate::line::{Kind, Line, Read, Stage};
+use crate::line::{Kind, Line, Read, Stage, Unfit};
 use crate::sort::{Sort, sort_of};
 use crate::words::{Word, word_by};
 
@@ -337,9 +337,8 @@ fn placed(line: Line, from: usize, end: usize) -> Read
     }
 }
 
-// Reads one line of the text, from a place on: the line and its end; or the place of the first byte with which
-// no allowed line goes on, or the length of the text, where it ends before the line does.
-pub fn read_line(text: &[u8], from: usize, stage: Stage) -> Result<Read, usize>
+// Reads one line of the text, from a place on.
+pub fn read_line(text: &[u8], from: usize, stage: Stage) -> Result<Read, Unfit>
     ensures line { ReadLine stage text.now from result }
     ensures alone { Alone stage text.now from result }
 {
@@ -347,12 +346,12 @@ pub fn read_line(text: &[u8], from: usize, stage: Stage) -> Result<Read, usize>
     let mut place = from;
     while place < text.len() {
         if !reader.take(text[place]) {
-            return Err(place);
+            return Err(Unfit { byte: place });
         }
         place += 1;
         if let State::Over = reader.state {
             return Ok(placed(reader.line, from, place));
         }
     }
-    Err(text.len())
+    Err(Unfit { byte: text.len() })
 }

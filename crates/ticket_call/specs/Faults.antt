@@ -5,6 +5,7 @@ use Rattle.registers.specs.declared.fault.Code.{Code}
 use Rattle.registers.specs.declared.fault.Layer.TheVariants.{Ticket}
 use Rattle.bay.specs.Faults.{bay_code}
 use Rattle.bay.specs.declared.fault.BayFault.{BayFault}
+use Rattle.ticket.specs.declared.line.Unfit.{Unfit as NoLine}
 use Rattle.ticket_call.specs.declared.fault.Refusal.{Refusal}
 use Rattle.ticket_call.specs.declared.fault.TicketFault.{TicketFault}
 use Rattle.ticket_call.specs.declared.fault.TicketFault.TheVariants.{TooLong, Unfit, OutOfField, CodeUsed, Bay}
@@ -19,6 +20,10 @@ ticket_code (Bay f) = bay_code f
 -- a bay's fault as the ticket's
 abbrev pub passed_on : BayFault → TicketFault
 passed_on f = Bay f
+
+-- where no line can be read
+abbrev pub unfit_at : NoLine → Refusal
+unfit_at u = record { fault = Unfit; byte = u.byte }
 
 -- what a refused ticket is told: layer, number and part, and a byte of it
 pub record Told : Type 0 where

@@ -1,9 +1,10 @@
 // Why a ticket is refused, and at which byte.
 ghost use Rattle.std.specs.Prelude.{◌≡◌};
-ghost use Rattle.ticket_call.specs.Faults.{ticket_code, passed_on, at_byte};
+ghost use Rattle.ticket_call.specs.Faults.{ticket_code, passed_on, unfit_at, at_byte};
 
 use bay::BayFault;
 use registers::{Code, Layer};
+use ticket::Unfit;
 
 #[derive(Clone, Copy, Debug, PartialEq, Eq)]
 pub enum TicketFault {
@@ -44,6 +45,13 @@ impl TicketFault {
             part: 0,
         }
     }
+
+    // The fault told at a byte.
+    pub(crate) fn at(self, byte: usize) -> Refusal
+        ensures { result ≡ record { fault = self; byte = byte } }
+    {
+        Refusal { fault: self, byte }
+    }
 }
 
 impl From<BayFault> for TicketFault {
@@ -54,15 +62,21 @@ impl From<BayFault> for TicketFault {
     }
 }
 
+// Where no line can be read, the ticket is refused.
+impl From<Unfit> for Refusal {
+    ghost from_gives = { λ u r. r ≡ unfit_at u };
+
+    fn from(unfit: Unfit) -> Refusal {
+        TicketFault::Unfit.at(unfit.byte)
+    }
+}
+
 // A call's answer; where it is refused, with the byte of the line that made it.
 pub(crate) fn at_byte<T>(res: Result<T, BayFault>, byte: usize) -> Result<T, Refusal>
     ensures { result ≡ at_byte byte res }
 {
     match res {
         Ok(value) => Ok(value),
-        Err(fault) => Err(Refusal {
-            fault: fault.into(),
-            byte,
-        }),
+        Err(fault) => Err(TicketFault::from(fault).at(byte)),
     }
 }

@@ -36,32 +36,15 @@ fn read_format(
     requires { k < 64 }
     ensures { FormatAnswer text.now from k codes.old codes.new result }
 {
-    let read = match read_line(text, from, Stage::Formats) {
-        Ok(read) => read,
-        Err(byte) => {
-            return Err(Refusal {
-                fault: TicketFault::Unfit,
-                byte,
-            });
-        }
-    };
+    let read = read_line(text, from, Stage::Formats)?;
     let Line::Format { number, code } = read.line else {
-        return Err(Refusal {
-            fault: TicketFault::Unfit,
-            byte: from,
-        });
+        return Err(TicketFault::Unfit.at(from));
     };
     if number != k {
-        return Err(Refusal {
-            fault: TicketFault::OutOfField,
-            byte: read.number_place,
-        });
+        return Err(TicketFault::OutOfField.at(read.number_place));
     }
     if is_used(&codes[0..k], code) {
-        return Err(Refusal {
-            fault: TicketFault::CodeUsed,
-            byte: read.code_place,
-        });
+        return Err(TicketFault::CodeUsed.at(read.code_place));
     }
     codes[k] = code;
     Ok(read.end)

@@ -37,15 +37,7 @@ fn read_order<C: TicketCost, R: Register<Cost = C>>(
     ensures { OrderAnswer C.Cost.algebra C.Cost.value C.TicketCost.reads text.now at.place (plain C.Cost.algebra C.Cost.value R.Register.holds bay.old) (plain C.Cost.algebra C.Cost.value R.Register.holds bay.new) ends.old ends.new result }
 {
     let Progress { place, legs } = at;
-    let read = match read_line(text, place, order_stage(legs)) {
-        Ok(read) => read,
-        Err(byte) => {
-            return Err(Refusal {
-                fault: TicketFault::Unfit,
-                byte,
-            });
-        }
-    };
+    let read = read_line(text, place, order_stage(legs))?;
     match read.line {
         Line::Card { from, to, cost } => {
             at_byte(bay.enter(from, to, C::of_number(cost)), place)?;
@@ -64,10 +56,7 @@ fn read_order<C: TicketCost, R: Register<Cost = C>>(
         }
         _ => {
             if read.end < text.len() {
-                return Err(Refusal {
-                    fault: TicketFault::Unfit,
-                    byte: read.end,
-                });
+                return Err(TicketFault::Unfit.at(read.end));
             }
             Ok(None)
         }

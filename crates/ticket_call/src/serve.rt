@@ -48,17 +48,11 @@ fn judge_bay(n: usize, entries: usize) -> Result<(), Refusal>
     ensures { told_of result ≡ first_cause (bay_causes n entries) }
 {
     if n < LEAST_FORMATS || n > MOST_FORMATS {
-        return Err(Refusal {
-            fault: TicketFault::OutOfField,
-            byte: SIZE_PLACE,
-        });
+        return Err(TicketFault::OutOfField.at(SIZE_PLACE));
     }
     if entries < TICKET_ENTRIES {
         let fault: BayFault = RegisterFault::MemoryUnfit.into();
-        return Err(Refusal {
-            fault: fault.into(),
-            byte: 0,
-        });
+        return Err(TicketFault::from(fault).at(0));
     }
     Ok(())
 }
@@ -117,25 +111,11 @@ pub fn route_ticket(
     ensures { TicketAnswer text.now (record { delay = of_lists delay.entry.entries.now delay.entry.table.now delay.entry.costs.now; depth = of_lists depth.entry.entries.now depth.entry.table.now depth.entry.costs.now; common = record { chains = chains.entry.now; codes = codes.old; ends = ends.old } }) (record { delay = of_lists delay.exit.0.now delay.exit.1.0.now delay.exit.1.1.0.now; depth = of_lists depth.exit.0.now depth.exit.1.0.now depth.exit.1.1.0.now; common = record { chains = chains.exit.now; codes = codes.new; ends = ends.new } }) result }
 {
     if text.len() > MOST_BYTES {
-        return Err(Refusal {
-            fault: TicketFault::TooLong,
-            byte: MOST_BYTES,
-        });
+        return Err(TicketFault::TooLong.at(MOST_BYTES));
     }
-    let read = match read_line(text, 0, Stage::Start) {
-        Ok(read) => read,
-        Err(byte) => {
-            return Err(Refusal {
-                fault: TicketFault::Unfit,
-                byte,
-            });
-        }
-    };
+    let read = read_line(text, 0, Stage::Start)?;
     let Line::Bay { kind, size } = read.line else {
-        return Err(Refusal {
-            fault: TicketFault::Unfit,
-            byte: 0,
-        });
+        return Err(TicketFault::Unfit.at(0));
     };
     let legs = match kind {
         Kind::Delay => {

@@ -16,6 +16,7 @@ use Rattle.ticket.specs.Grammar.{IsRead, IsRefused}
 use Rattle.ticket.specs.declared.line.Line.TheVariants.{End}
 use Rattle.ticket.specs.declared.line.Read.{Read}
 use Rattle.ticket.specs.declared.line.Stage.{Stage}
+use Rattle.ticket.specs.declared.line.Unfit.{Unfit}
 use Rattle.ticket_call.specs.Answers.{OfKind, Common, desk, Refused, Routed, LinesAnswer, BayRefused, BayPasses, KindAnswer}
 use Rattle.ticket_call.specs.Faults.{Told, told, told_by, at_byte}
 use Rattle.ticket_call.specs.Said.{Said, begins, due, adds, line_causes, Passes, More, Through, LineRefused}
@@ -26,10 +27,13 @@ pub one_read : (stage : Stage) (text : List ℕ) (from : ℕ) (a b : Read) → I
 one_read stage text from a b g h = let e = one_answer stage text from (Ok a) (Ok b) g h in cc
 
 pub one_byte : (stage : Stage) (text : List ℕ) (from p q : ℕ) → IsRefused stage text from p → IsRefused stage text from q → p ≡ q
-one_byte stage text from p q g h = let e = one_answer stage text from (Err p) (Err q) g h in cc
+one_byte stage text from p q g h =
+    let e = one_answer stage text from (Err (record { byte = p })) (Err (record { byte = q })) g h in
+    let same : ◌≡◌ {A = Unfit} (record { byte = p }) (record { byte = q }) = cc in
+    ap (λ u. u.byte) same
 
 pub not_both : (stage : Stage) (text : List ℕ) (from : ℕ) (a : Read) (p : ℕ) → IsRead stage text from a → IsRefused stage text from p → ⊥
-not_both stage text from a p g h = let e = one_answer stage text from (Ok a) (Err p) g h in let z : ◌≡◌ {A = ℕ} 0 1 = cc in omega arith
+not_both stage text from a p g h = let e = one_answer stage text from (Ok a) (Err (record { byte = p })) g h in let z : ◌≡◌ {A = ℕ} 0 1 = cc in omega arith
 
 pub none≢some : {X : Type 0} (o : Option X) (x : X) → o ≡ None → o ≡ Some x → ⊥
 none≢some o x e f = let z : ◌≡◌ {A = ℕ} 0 1 = cc in omega arith

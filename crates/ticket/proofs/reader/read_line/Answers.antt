@@ -38,7 +38,7 @@ refused-here c =
 pub returns-then-not-take : goal.returns-then-not-take
 returns-then-not-take c = record {
   line = refused-here c;
-  alone = λ s k. one_answer c.args.stage c.args.text.now c.args.from s (Err c.loop-place.place) k (refused-here c);
+  alone = λ s k. one_answer c.args.stage c.args.text.now c.args.from s (Err (record { byte = c.loop-place.place })) k (refused-here c);
 }
 
 pub placed-requires : goal.placed-requires
@@ -90,5 +90,5 @@ text-ends c = record {
 pub returns : goal.returns
 returns c = record {
   line = text-ends c;
-  alone = λ s k. one_answer c.args.stage c.args.text.now c.args.from s (Err (length c.args.text.now)) k (text-ends c);
+  alone = λ s k. one_answer c.args.stage c.args.text.now c.args.from s (Err (record { byte = length c.args.text.now })) k (text-ends c);
 }
