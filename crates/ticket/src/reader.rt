@@ -343,14 +343,12 @@ pub fn read_line(text: &[u8], from: usize, stage: Stage) -> Result<Read, Unfit>
     ensures alone { Alone stage text.now from result }
 {
     let mut reader = Reader::new(stage);
-    let mut place = from;
-    while place < text.len() {
+    for place in from..text.len() {
         if !reader.take(text[place]) {
             return Err(Unfit { byte: place });
         }
-        place += 1;
         if let State::Over = reader.state {
-            return Ok(placed(reader.line, from, place));
+            return Ok(placed(reader.line, from, place + 1));
         }
     }
     Err(Unfit { byte: text.len() })

@@ -49,13 +49,5 @@ pub fn word_by(stage: Stage, letter: u8) -> Option<Word>
 pub fn same_bytes(a: &[u8], b: &[u8]) -> bool
     ensures { Decides result (a.now ≡ b.now) }
 {
-    if a.len() != b.len() {
-        return false;
-    }
-    for i in 0..a.len() {
-        if a[i] != b[i] {
-            return false;
-        }
-    }
-    true
+    a == b
 }

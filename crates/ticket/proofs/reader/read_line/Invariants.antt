@@ -12,6 +12,3 @@ invariant-loop-place l =
     × (to_come l.reader ≡ run (to_come l.initial.reader) (part l.text l.from l.place))
     × (l.reader.state ≡ Over → ⊥)
     × (l.reader.value < too_large)
-
-abbrev pub decreases-loop-place : goal.decreases-loop-place
-decreases-loop-place l = length l.text - l.place

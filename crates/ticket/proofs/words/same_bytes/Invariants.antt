@@ -1,6 +1,0 @@
--- All bytes before i are the same.
-use Rattle.std.proofs.Common.{◌≡◌, take}
-use Rattle.ticket.proofs.words.same_bytes.Given as goal
-
-abbrev pub invariant-loop-i : goal.invariant-loop-i
-invariant-loop-i l = take l.i l.a ≡ take l.i l.b
