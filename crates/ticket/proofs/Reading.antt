@@ -1,6 +1,6 @@
 -- The reader over the bytes of a text: what it knows at each place.
 -- Where it waits, some allowed line goes on; where a byte is refused, none does.
-use Rattle.std.proofs.Common.{◌≡◌, ℕ, ◌+◌, ◌-◌, ◌<◌, ◌≤◌, Bool, true, false, List, [], ◌∷◌, ◌++◌, length, get_or, take, drop, pos, neg_ℤ, codes, decimal, sym, refl, ap, ◌∙◌, subst, arith}
+use Rattle.std.proofs.Common.{◌≡◌, ℕ, ◌+◌, ◌-◌, ◌<◌, ◌≤◌, Bool, true, false, List, [], ◌∷◌, ◌++◌, length, get_or, take, drop, pos, neg_ℤ, Some, None, Option, codes, decimal, sym, refl, ap, ◌∙◌, subst, arith}
 use Rattle.std.proofs.lemmas.List.{take_more, take_all, take-append-drop, drop-drop, get_or-drop, length-drop, length-append, length-take-le}
 use Rattle.ticket.specs.Grammar.{line_text, Allowed, Coded, Fits, Unfinished, part, number_begins, code_begins, IsRead}
 use Rattle.ticket.specs.Rests.{Rest, dead, over, after_byte, fixed, letters_of, ending, closing, size_rest, code_rest, number_rest, below_zero, not_below, cost_rest, pair_end, to_rest, from_rest, kind_choice, word_end, word_rest, first_rest, line_rest, reading, cost_reading, rest_at, to_come}
@@ -64,15 +64,15 @@ fine_line Cards = (live_fixed (codes "(") (first_rest Cards) live_cards).0
 fine_line Legs = (live_fixed (codes "(") (first_rest Legs) live_legs).0
 
 -- before its last byte the reader waits
-waits_reading : (begun : Bool) (n stop : ℕ) (next : ℕ → Rest) → Waits (reading begun n stop next)
-waits_reading true n stop next = tt
-waits_reading false n stop next = tt
+waits_reading : (value : Option ℕ) (stop : ℕ) (next : ℕ → Rest) → Waits (reading value stop next)
+waits_reading (Some n) stop next = tt
+waits_reading None stop next = tt
 
-waits_cost : (minus begun : Bool) (a b n : ℕ) → Waits (cost_reading minus begun a b n)
-waits_cost true true a b n = tt
-waits_cost true false a b n = tt
-waits_cost false true a b n = tt
-waits_cost false false a b n = tt
+waits_cost : (minus : Bool) (value : Option ℕ) (a b : ℕ) → Waits (cost_reading minus value a b)
+waits_cost true (Some n) a b = tt
+waits_cost true None a b = tt
+waits_cost false (Some n) a b = tt
+waits_cost false None a b = tt
 
 waits_first : (stage : Stage) → Waits (first_rest stage)
 waits_first Start = tt
@@ -104,12 +104,12 @@ waits_at First r n = waits_first r.stage
 waits_at InWord r n = waits_fixed (drop r.at (letters_of r.word)) (word_end r.word) (waits_word r.word)
 waits_at InKind r n = waits_fixed (drop r.at (codes "de")) kind_choice tt
 waits_at Pair r n = tt
-waits_at Size r n = waits_reading r.begun r.value 41 (λ n. ending (line.Bay r.kind n))
-waits_at Number r n = waits_reading r.begun r.value 32 (λ k. code_rest k 0 [])
-waits_at From r n = waits_reading r.begun r.value 32 (λ a. to_rest r.word a)
-waits_at To r n = waits_reading r.begun r.value 41 (λ b. pair_end r.word r.first b)
+waits_at Size r n = waits_reading r.numeral.value 41 (λ n. ending (line.Bay r.kind n))
+waits_at Number r n = waits_reading r.numeral.value 32 (λ k. code_rest k 0 [])
+waits_at From r n = waits_reading r.numeral.value 32 (λ a. to_rest r.word a)
+waits_at To r n = waits_reading r.numeral.value 41 (λ b. pair_end r.word r.first b)
 waits_at PairEnd r n = waits_pair r.word r.first r.second
-waits_at Cost r n = waits_cost r.minus r.begun r.first r.second r.value
+waits_at Cost r n = waits_cost r.numeral.minus r.numeral.value r.first r.second
 waits_at InCode r n = waits_signs (4 - r.at) (λ cs. closing (line.Format r.first (take r.at r.code ++ cs))) (λ cs. tt)
 waits_at Ending r n = tt
 waits_at Over r n = absurd (n refl)

@@ -139,14 +139,15 @@ abbrev pub line_rest : Stage → Rest
 line_rest stage = fixed (codes "(") (first_rest stage)
 
 -- a number of which the digits so far, if any, are known
-abbrev pub reading : Bool → ℕ → ℕ → (ℕ → Rest) → Rest
-reading begun n stop next = cond begun (digits n stop next) (number 0 stop next)
+abbrev pub reading : Option ℕ → ℕ → (ℕ → Rest) → Rest
+reading (Some n) stop next = digits n stop next
+reading None stop next = number 0 stop next
 
-abbrev pub cost_reading : Bool → Bool → ℕ → ℕ → ℕ → Rest
-cost_reading true true a b n = digits n 41 (below_zero a b)
-cost_reading true false a b n = number 1 41 (below_zero a b)
-cost_reading false true a b n = digits n 41 (not_below a b)
-cost_reading false false a b n = cost_rest a b
+abbrev pub cost_reading : Bool → Option ℕ → ℕ → ℕ → Rest
+cost_reading true (Some n) a b = digits n 41 (below_zero a b)
+cost_reading true None a b = number 1 41 (below_zero a b)
+cost_reading false (Some n) a b = digits n 41 (not_below a b)
+cost_reading false None a b = cost_rest a b
 
 -- what the reader, in its state, still looks for
 abbrev pub rest_at : State → Reader → Rest
@@ -155,12 +156,12 @@ rest_at First r = first_rest r.stage
 rest_at InWord r = word_rest r.word r.at
 rest_at InKind r = kind_rest r.at
 rest_at Pair r = fixed (codes "(") (from_rest r.word)
-rest_at Size r = reading r.begun r.value 41 (λ n. ending (line.Bay r.kind n))
-rest_at Number r = reading r.begun r.value 32 (λ k. code_rest k 0 [])
-rest_at From r = reading r.begun r.value 32 (λ a. to_rest r.word a)
-rest_at To r = reading r.begun r.value 41 (λ b. pair_end r.word r.first b)
+rest_at Size r = reading r.numeral.value 41 (λ n. ending (line.Bay r.kind n))
+rest_at Number r = reading r.numeral.value 32 (λ k. code_rest k 0 [])
+rest_at From r = reading r.numeral.value 32 (λ a. to_rest r.word a)
+rest_at To r = reading r.numeral.value 41 (λ b. pair_end r.word r.first b)
 rest_at PairEnd r = pair_end r.word r.first r.second
-rest_at Cost r = cost_reading r.minus r.begun r.first r.second r.value
+rest_at Cost r = cost_reading r.numeral.minus r.numeral.value r.first r.second
 rest_at InCode r = code_rest r.first r.at r.code
 rest_at Ending r = ending r.line
 rest_at Over r = over r.line
@@ -173,49 +174,18 @@ abbrev pub left : Bool → Reader → Rest
 left true r = to_come r
 left false r = dead
 
--- the reader at a number, with its digits so far
-abbrev pub at_number : State → Bool → Bool → ℕ → Reader → Reader
-at_number s minus begun n r = record {
-  stage = r.stage;
-  state = s;
-  word = r.word;
-  kind = r.kind;
-  at = r.at;
-  minus = minus;
-  begun = begun;
-  value = n;
-  first = r.first;
-  second = r.second;
-  code = r.code;
-  line = r.line;
-}
-
-abbrev pub begun_at : State → Reader → Reader
-begun_at s r = at_number s false false 0 r
-
 -- one digit more
-abbrev pub takes_digit : Reader → Bool
-takes_digit r = cond r.begun (grows r.value) true
+abbrev pub takes_digit : Option ℕ → Bool
+takes_digit (Some n) = grows n
+takes_digit None = true
 
-abbrev pub with_digit : Reader → ℕ → Reader
-with_digit r c = at_number r.state r.minus true (cond r.begun (r.value * 10 + (c - 48)) (c - 48)) r
+abbrev pub with_digit : Option ℕ → ℕ → Option ℕ
+with_digit (Some n) c = Some (n * 10 + (c - 48))
+with_digit None c = Some (c - 48)
 
 -- one letter more
 abbrev pub takes_letter : List ℕ → ℕ → ℕ → Bool
 takes_letter letters at c = nat_lt at (length letters) && slice_index letters at == c
 
 abbrev pub with_letter : Reader → Reader
-with_letter r = record {
-  stage = r.stage;
-  state = r.state;
-  word = r.word;
-  kind = r.kind;
-  at = r.at + 1;
-  minus = r.minus;
-  begun = r.begun;
-  value = r.value;
-  first = r.first;
-  second = r.second;
-  code = r.code;
-  line = r.line;
-}
+with_letter r = record r { at = r.at + 1 }

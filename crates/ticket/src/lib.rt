@@ -2,6 +2,7 @@
 #![tactic(auto)]
 
 mod line;
+mod numeral;
 mod reader;
 mod sort;
 mod words;

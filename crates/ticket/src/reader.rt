@@ -1,11 +1,12 @@
 // The line reader: it takes the bytes of a line one by one, and knows at each what may still come.
-ghost use Rattle.std.specs.Prelude.{◌≡◌, ◌+◌, ◌<◌, ◌≤◌, true, ◌||◌, length, if◌then◌else◌};
+ghost use Rattle.std.specs.Prelude.{◌≡◌, ◌+◌, true, false, ◌||◌, length, None, if◌then◌else◌};
 ghost use Rattle.ticket.specs.Signs.{digit, letter};
 ghost use Rattle.ticket.specs.declared.reader.State.TheVariants.{InWord, InKind, PairEnd, InCode};
-ghost use Rattle.ticket.specs.Grammar.{too_large, line_text, Coded, number_begins, code_begins, ReadLine, Alone};
-ghost use Rattle.ticket.specs.Rests.{line_rest, to_come, left, after_byte, begun_at, takes_digit, with_digit, takes_letter, with_letter};
+ghost use Rattle.ticket.specs.Grammar.{line_text, Coded, number_begins, code_begins, ReadLine, Alone};
+ghost use Rattle.ticket.specs.Rests.{line_rest, to_come, left, after_byte, takes_letter, with_letter};
 
 use crate::line::{Kind, Line, Read, Stage, Unfit};
+use crate::numeral::Numeral;
 use crate::sort::{Sort, sort_of};
 use crate::words::{Word, word_by};
 
@@ -35,10 +36,7 @@ pub struct Reader {
     word: Word,
     kind: Kind,
     at: usize,
-    // a number: its digits so far, if any, and whether a minus stands in front
-    minus: bool,
-    begun: bool,
-    value: u32,
+    numeral: Numeral,
     // the numbers before it
     first: u32,
     second: u32,
@@ -49,8 +47,7 @@ pub struct Reader {
 impl Reader {
     // Before the first byte.
     fn new(stage: Stage) -> Reader
-        ensures waits { to_come result ≡ line_rest stage }
-        ensures small { result.value < too_large }
+        ensures { to_come result ≡ line_rest stage }
     {
         Reader {
             stage,
@@ -58,9 +55,7 @@ impl Reader {
             word: Word::End,
             kind: Kind::Delay,
             at: 0,
-            minus: false,
-            begun: false,
-            value: 0,
+            numeral: Numeral::new(),
             first: 0,
             second: 0,
             code: [0; 4],
@@ -70,31 +65,12 @@ impl Reader {
 
     // Before the first digit of a number.
     fn begin(&mut self, state: State)
-        ensures { self.new ≡ begun_at state self.old }
+        ensures exit { self.new ≡ record self.old { state = state; numeral = self.new.numeral } }
+        ensures minus { self.new.numeral.minus ≡ false }
+        ensures value { self.new.numeral.value ≡ None }
     {
         self.state = state;
-        self.minus = false;
-        self.begun = false;
-        self.value = 0;
-    }
-
-    // One more digit of the number, if it can have one: 0 stands alone, and seven digits are the most.
-    fn digit(&mut self, sign: u8) -> bool
-        requires { digit sign ≡ true }
-        ensures fits { result ≡ takes_digit self.old }
-        ensures exit { self.new ≡ (if result then with_digit self.old sign else self.old) }
-    {
-        let digit = u32::from(sign - b'0');
-        if !self.begun {
-            self.begun = true;
-            self.value = digit;
-            return true;
-        }
-        if self.value == 0 || self.value >= 1_000_000 {
-            return false;
-        }
-        self.value = self.value * 10 + digit;
-        true
+        self.numeral = Numeral::new();
     }
 
     // One more letter of these.
@@ -112,8 +88,7 @@ impl Reader {
     // The space after a word.
     fn leave_word(&mut self) -> bool
         requires { self.old.state ≡ InWord }
-        ensures goes { left result self.new ≡ after_byte (to_come self.old) 32 }
-        ensures small { self.new.value ≤ self.old.value }
+        ensures { left result self.new ≡ after_byte (to_come self.old) 32 }
     {
         if self.at < self.word.letters().len() {
             return false;
@@ -149,8 +124,7 @@ impl Reader {
     // The closing sign after a word.
     fn close_word(&mut self) -> bool
         requires { self.old.state ≡ InWord }
-        ensures goes { left result self.new ≡ after_byte (to_come self.old) 41 }
-        ensures small { self.new.value ≤ self.old.value }
+        ensures { left result self.new ≡ after_byte (to_come self.old) 41 }
     {
         if self.at < self.word.letters().len() {
             return false;
@@ -169,8 +143,7 @@ impl Reader {
     fn kind_letter(&mut self, sign: u8) -> bool
         requires at { self.old.state ≡ InKind }
         requires letter { letter sign ≡ true }
-        ensures goes { left result self.new ≡ after_byte (to_come self.old) sign }
-        ensures small { self.new.value ≤ self.old.value }
+        ensures { left result self.new ≡ after_byte (to_come self.old) sign }
     {
         if self.at < 2 {
             return self.letter(b"de", sign);
@@ -188,8 +161,7 @@ impl Reader {
     // The sign after a pair: a leg is at its end, and a card goes on to its cost.
     fn leave_pair(&mut self, sign: u8) -> bool
         requires at { self.old.state ≡ PairEnd }
-        ensures goes { left result self.new ≡ after_byte (to_come self.old) sign }
-        ensures small { self.new.value ≤ self.old.value }
+        ensures { left result self.new ≡ after_byte (to_come self.old) sign }
     {
         match (self.word, sign) {
             (Word::Leg, b')') => {
@@ -213,8 +185,7 @@ impl Reader {
     fn code_sign(&mut self, sign: u8) -> bool
         requires at { self.old.state ≡ InCode }
         requires fits { (letter sign || digit sign) ≡ true }
-        ensures goes { left result self.new ≡ after_byte (to_come self.old) sign }
-        ensures small { self.new.value ≤ self.old.value }
+        ensures { left result self.new ≡ after_byte (to_come self.old) sign }
     {
         if self.at >= 4 {
             return false;
@@ -226,9 +197,7 @@ impl Reader {
 
     // Takes the next byte. False where no allowed line goes on with it.
     fn take(&mut self, sign: u8) -> bool
-        requires { self.old.value < too_large }
-        ensures goes { left result self.new ≡ after_byte (to_come self.old) sign }
-        ensures small { self.new.value < too_large }
+        ensures { left result self.new ≡ after_byte (to_come self.old) sign }
     {
         match (self.state, sort_of(sign as char)) {
             (State::Opening, Sort::Open) => {
@@ -252,47 +221,63 @@ impl Reader {
                 self.begin(State::From);
                 true
             }
-            (State::Size | State::Number | State::From | State::To, Sort::Digit) => self.digit(
-                sign,
-            ),
-            (State::Size, Sort::Close) if self.begun => {
+            (State::Size | State::Number | State::From | State::To, Sort::Digit) => {
+                self.numeral.digit(sign)
+            }
+            (State::Size, Sort::Close) => {
+                let Some(value) = self.numeral.value else {
+                    return false;
+                };
                 self.line = Line::Bay {
                     kind: self.kind,
-                    size: self.value as usize,
+                    size: value as usize,
                 };
                 self.state = State::Ending;
                 true
             }
-            (State::Number, Sort::Space) if self.begun => {
-                self.first = self.value;
+            (State::Number, Sort::Space) => {
+                let Some(value) = self.numeral.value else {
+                    return false;
+                };
+                self.first = value;
                 self.at = 0;
                 self.state = State::InCode;
                 true
             }
-            (State::From, Sort::Space) if self.begun => {
-                self.first = self.value;
+            (State::From, Sort::Space) => {
+                let Some(value) = self.numeral.value else {
+                    return false;
+                };
+                self.first = value;
                 self.begin(State::To);
                 true
             }
-            (State::To, Sort::Close) if self.begun => {
-                self.second = self.value;
+            (State::To, Sort::Close) => {
+                let Some(value) = self.numeral.value else {
+                    return false;
+                };
+                self.second = value;
                 self.state = State::PairEnd;
                 true
             }
             (State::PairEnd, Sort::Space | Sort::Close) => self.leave_pair(sign),
-            (State::Cost, Sort::Minus) if !self.begun && !self.minus => {
-                self.minus = true;
+            (State::Cost, Sort::Minus) if self.numeral.value.is_none() && !self.numeral.minus => {
+                self.numeral.minus = true;
                 true
             }
-            (State::Cost, Sort::Digit) if self.begun || !self.minus || sign != b'0' => self.digit(
-                sign,
-            ),
-            (State::Cost, Sort::Close) if self.begun => {
-                let size = self.value as i32;
+            (State::Cost, Sort::Digit)
+                if self.numeral.value.is_some() || !self.numeral.minus || sign != b'0' => {
+                self.numeral.digit(sign)
+            }
+            (State::Cost, Sort::Close) => {
+                let Some(value) = self.numeral.value else {
+                    return false;
+                };
+                let size = value as i32;
                 self.line = Line::Card {
                     from: self.first as usize,
                     to: self.second as usize,
-                    cost: if self.minus { -size } else { size },
+                    cost: if self.numeral.minus { -size } else { size },
                 };
                 self.state = State::Ending;
                 true

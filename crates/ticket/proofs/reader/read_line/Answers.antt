@@ -12,16 +12,12 @@ pub loop-place-init : goal.loop-place-init
 loop-place-init c = (
   omega arith,
   sym (ap (run (to_come c.new-reader.result)) (part_none c.args.text.now c.args.from)),
-  not_over c.new-reader.result (line_rest c.args.stage) c.new-reader.ensures.waits tt,
-  c.new-reader.ensures.small,
+  not_over c.new-reader.result (line_rest c.args.stage) c.new-reader.ensures tt,
 )
-
-pub take-requires : goal.take-requires
-take-requires c = c.loop-place.invariant.3
 
 refused-here : (c : goal.Then-not-take) → IsRefused c.args.stage c.args.text.now c.args.from c.loop-place.place
 refused-here c =
-    let start = c.new-reader.ensures.waits in
+    let start = c.new-reader.ensures in
     record {
       before = waiting c.args.stage (part c.args.text.now c.args.from c.loop-place.place) c.loop-place.reader
           (c.loop-place.invariant.1 ∙ ap (λ s. run s (part c.args.text.now c.args.from c.loop-place.place)) start) c.loop-place.invariant.2;
@@ -29,7 +25,7 @@ refused-here c =
         c.loop-place.invariant.0,
         c.loop-place-test.true,
         refused c.args.stage (part c.args.text.now c.args.from (c.loop-place.place + 1))
-            (sym (c.if-not-take.ensures.goes
+            (sym (c.if-not-take.ensures
             ∙ run_more (to_come c.new-reader.result) c.args.text.now c.args.from c.loop-place.place (to_come c.loop-place.reader) c.loop-place.invariant.0 c.loop-place-test.true c.loop-place.invariant.1
             ∙ ap (λ s. run s (part c.args.text.now c.args.from (c.loop-place.place + 1))) start)),
       );
@@ -46,9 +42,9 @@ placed-requires c =
     let l : c.loop-place.place < length c.args.text.now = c.loop-place-test.true in
     let m : c.args.from ≤ c.loop-place.place = c.loop-place.invariant.0 in
     line_ends c.args.stage c.args.text.now c.args.from (c.loop-place.place + 1) c.take.new.self (omega arith) (omega arith)
-    (c.if-not-take.ensures.goes
+    (c.if-not-take.ensures
     ∙ run_more (to_come c.new-reader.result) c.args.text.now c.args.from c.loop-place.place (to_come c.loop-place.reader) c.loop-place.invariant.0 c.loop-place-test.true c.loop-place.invariant.1
-    ∙ ap (λ s. run s (part c.args.text.now c.args.from (c.loop-place.place + 1))) c.new-reader.ensures.waits)
+    ∙ ap (λ s. run s (part c.args.text.now c.args.from (c.loop-place.place + 1))) c.new-reader.ensures)
     c.in-Over.is
 
 read_here : (c : goal.After-placed) → IsRead c.args.stage c.args.text.now c.args.from c.placed.result
@@ -56,9 +52,9 @@ read_here c =
     let l : c.loop-place.place < length c.args.text.now = c.loop-place-test.true in
     let m : c.args.from ≤ c.loop-place.place = c.loop-place.invariant.0 in
     is_read c.args.stage c.args.text.now c.args.from (c.loop-place.place + 1) c.take.new.self c.placed.result (omega arith) (omega arith)
-    (c.if-not-take.ensures.goes
+    (c.if-not-take.ensures
     ∙ run_more (to_come c.new-reader.result) c.args.text.now c.args.from c.loop-place.place (to_come c.loop-place.reader) c.loop-place.invariant.0 c.loop-place-test.true c.loop-place.invariant.1
-    ∙ ap (λ s. run s (part c.args.text.now c.args.from (c.loop-place.place + 1))) c.new-reader.ensures.waits)
+    ∙ ap (λ s. run s (part c.args.text.now c.args.from (c.loop-place.place + 1))) c.new-reader.ensures)
     c.in-Over.is c.placed.ensures.value c.placed.ensures.number c.placed.ensures.code
 
 pub returns-in-Over : goal.returns-in-Over
@@ -71,17 +67,16 @@ pub loop-place-preserved : goal.loop-place-preserved
 loop-place-preserved c =
     let m : c.args.from ≤ c.loop-place.place = c.loop-place.invariant.0 in (
       omega arith,
-      c.if-not-take.ensures.goes
+      c.if-not-take.ensures
           ∙ run_more (to_come c.new-reader.result) c.args.text.now c.args.from c.loop-place.place (to_come c.loop-place.reader) c.loop-place.invariant.0 c.loop-place-test.true c.loop-place.invariant.1,
       c.in_default.not-Over,
-      c.if-not-take.ensures.small,
     )
 
 text-ends : (c : goal.After-loop-place) → IsRefused c.args.stage c.args.text.now c.args.from (length c.args.text.now)
 text-ends c = record {
   before = waiting c.args.stage (part c.args.text.now c.args.from (length c.args.text.now)) c.loop-place.reader
       (c.loop-place.invariant.1
-      ∙ ap (λ s. run s (part c.args.text.now c.args.from c.loop-place.place)) c.new-reader.ensures.waits
+      ∙ ap (λ s. run s (part c.args.text.now c.args.from c.loop-place.place)) c.new-reader.ensures
       ∙ ap (run (line_rest c.args.stage)) (part_all c.args.text.now c.args.from c.loop-place.place c.loop-place-test.false))
       c.loop-place.invariant.2;
   here = inl refl;

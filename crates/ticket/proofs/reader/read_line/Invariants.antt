@@ -1,6 +1,6 @@
 -- At each place the reader knows what may come after the bytes so far, and it is not at the end of a line.
-use Rattle.std.proofs.Common.{◌≡◌, ◌-◌, ◌<◌, ◌≤◌, length}
-use Rattle.ticket.specs.Grammar.{part, too_large}
+use Rattle.std.proofs.Common.{◌≡◌, ◌≤◌}
+use Rattle.ticket.specs.Grammar.{part}
 use Rattle.ticket.specs.Rests.{to_come}
 use Rattle.ticket.specs.declared.reader.State.TheVariants.{Over}
 use Rattle.ticket.proofs.Runs.{run}
@@ -11,4 +11,3 @@ invariant-loop-place l =
     (l.from ≤ l.place)
     × (to_come l.reader ≡ run (to_come l.initial.reader) (part l.text l.from l.place))
     × (l.reader.state ≡ Over → ⊥)
-    × (l.reader.value < too_large)

@@ -6,10 +6,6 @@ use Rattle.ticket.proofs.Steps.{code_goes, in_state}
 use Rattle.ticket.proofs.reader.Reader.code_sign.Goals as goal
 
 pub returns : goal.returns
-returns c = record {
-  goes =
-      in_state _ InCode c.requires.at
-      ∙ sym (ap (λ t. after_byte t c.args.sign) (in_state c.args.self.now InCode c.requires.at)
-      ∙ code_goes _ _ _ _ (search rules) (omega arith) c.requires.fits);
-  small = search rules;
-}
+returns c = in_state _ InCode c.requires.at
+    ∙ sym (ap (λ t. after_byte t c.args.sign) (in_state c.args.self.now InCode c.requires.at)
+    ∙ code_goes _ _ _ _ (search rules) (omega arith) c.requires.fits)

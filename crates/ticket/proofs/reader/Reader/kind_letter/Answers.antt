@@ -8,15 +8,9 @@ use Rattle.ticket.proofs.reader.Reader.kind_letter.Goals as goal
 pub returns-in_default : goal.returns-in_default
 returns-in_default c =
     let e : kind_choice ≡ to_come c.args.self.now = kind_over c.args.self.now c.requires.at (omega arith) in
-    record {
-      goes = subst (λ t. dead ≡ after_byte t c.args.sign) e (grind (arith, nat_tests));
-      small = search rules;
-    }
+    subst (λ t. dead ≡ after_byte t c.args.sign) e (grind (arith, nat_tests))
 
 pub returns : goal.returns
 returns c =
     let e : kind_choice ≡ to_come c.args.self.now = kind_over c.args.self.now c.requires.at (omega arith) in
-    record {
-      goes = subst (λ t. word_rest c.match-sign.self 3 ≡ after_byte t c.args.sign) e (search rules);
-      small = search rules;
-    }
+    subst (λ t. word_rest c.match-sign.self 3 ≡ after_byte t c.args.sign) e (search rules)
