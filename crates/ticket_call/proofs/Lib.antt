@@ -1,4 +1,3 @@
-mod Codes
 pub mod Passing
 pub mod Taking
 pub mod Serving

@@ -75,8 +75,5 @@ impl From<Unfit> for Refusal {
 pub(crate) fn at_byte<T>(res: Result<T, BayFault>, byte: usize) -> Result<T, Refusal>
     ensures { result ≡ at_byte byte res }
 {
-    match res {
-        Ok(value) => Ok(value),
-        Err(fault) => Err(TicketFault::from(fault).at(byte)),
-    }
+    res.map_err(|fault| TicketFault::from(fault).at(byte))
 }

@@ -18,12 +18,7 @@ pub type FourCc = [u8; 4];
 fn is_used(codes: &[FourCc], code: FourCc) -> bool
     ensures { result ≡ used codes.now code }
 {
-    for held in codes {
-        if same_bytes(held, &code) {
-            return true;
-        }
-    }
-    false
+    codes.iter().any(|held| same_bytes(held, &code))
 }
 
 // The line of format `k`, whose code is none of those before it: where it ends.

@@ -41,9 +41,8 @@ impl TicketCost for Depth {
     ghost writes = { λ d. pos d.bits };
 
     fn of_number(number: i32) -> Depth {
-        match u8::try_from(number) {
-            Ok(bits) => Depth { bits },
-            Err(_) => Depth { bits: 0 },
+        Depth {
+            bits: u8::try_from(number).unwrap_or(0),
         }
     }
 

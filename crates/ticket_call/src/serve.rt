@@ -47,11 +47,11 @@ pub struct Granted {
 fn judge_bay(n: usize, entries: usize) -> Result<(), Refusal>
     ensures { told_of result ≡ first_cause (bay_causes n entries) }
 {
-    if n < LEAST_FORMATS || n > MOST_FORMATS {
+    if !(LEAST_FORMATS..=MOST_FORMATS).contains(&n) {
         return Err(TicketFault::OutOfField.at(SIZE_PLACE));
     }
     if entries < TICKET_ENTRIES {
-        let fault: BayFault = RegisterFault::MemoryUnfit.into();
+        let fault = BayFault::from(RegisterFault::MemoryUnfit);
         return Err(TicketFault::from(fault).at(0));
     }
     Ok(())

@@ -1,20 +1,20 @@
-use Rattle.std.proofs.Common.{◌+◌, ◌||◌, drop, sym, ap, ◌∙◌}
-use Rattle.std.proofs.lemmas.List.{at_drop_all}
-use Rattle.ticket_call.specs.Said.{used}
-use Rattle.ticket_call.proofs.Codes.{used_more}
+use Rattle.std.proofs.Common.{◌≡◌, ℕ, Bool, ◌||◌, List, [], ◌∷◌, Decides, refl, ap, ◌∙◌, rules}
+use Rattle.std.specs.List.{list_any}
+use Rattle.std.proofs.lemmas.Iterator.{YieldsList-from_slice}
+use Rattle.std.proofs.lemmas.Iterator.Search.{any_from_yields_List}
+use Rattle.std.proofs.lemmas.Slice.Eq.{compares_Decides}
+use Rattle.std.proofs.lemmas.Bool.Decides.{same_from_decides}
+use Rattle.ticket_call.specs.Said.{same_code, used}
 use Rattle.ticket_call.proofs.formats.is_used.Goals as goal
 
-pub loop-held-preserved : goal.loop-held-preserved
-loop-held-preserved c =
-    sym (used_more c.args.codes.now c.loop-held.held-index c.args.code c.same_bytes.result c.loop-held-test.true c.same_bytes.ensures
-    ∙ ap (λ t. t || used (drop (c.loop-held.held-index + 1) c.args.codes.now) c.args.code) c.if-same_bytes.false)
-    ∙ c.loop-held.invariant
+used_by_any : (codes : List (List ℕ)) (code : List ℕ) → list_any (λ held. same_code held code) codes ≡ used codes code
+used_by_any [] code = refl
+used_by_any (c ∷ cs) code = ap (λ t. same_code c code || t) (used_by_any cs code)
 
-pub returns-then-same_bytes : goal.returns-then-same_bytes
-returns-then-same_bytes c =
-    sym (used_more c.args.codes.now c.loop-held.held-index c.args.code c.same_bytes.result c.loop-held-test.true c.same_bytes.ensures
-    ∙ ap (λ t. t || used (drop (c.loop-held.held-index + 1) c.args.codes.now) c.args.code) c.if-same_bytes.true)
-    ∙ c.loop-held.invariant
+compared : (held code : List ℕ) (b : Bool) → Decides b (held ≡ code) → b ≡ same_code held code
+compared held code b d = same_from_decides b (same_code held code) d (compares_Decides same_code (search rules) held code)
 
 pub returns : goal.returns
-returns c = sym (at_drop_all (λ cs. used cs c.args.code) c.args.codes.now c.loop-held.held-index c.loop-held-test.false) ∙ c.loop-held.invariant
+returns c =
+    any_from_yields_List (λ held. same_code held c.args.code) _ _ _ c.any.ensures.ran (YieldsList-from_slice c.args.codes.now cc) (λ x b q k. (search rules, compared x.now c.args.code b (search rules)))
+    ∙ used_by_any c.args.codes.now c.args.code
