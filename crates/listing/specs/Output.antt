@@ -1,5 +1,6 @@
 -- Text that is written from the start of a place of bytes, which may be too short for it.
 use Rattle.std.specs.Prelude.{◌≡◌, ℕ, ◌-◌, ◌^◌, ◌<◌, ◌≤◌, min, List, ◌++◌, length, drop, Ok, Err, Result}
+use Rattle.listing.specs.declared.answer.PlaceShort.{PlaceShort}
 use Rattle.listing.specs.declared.output.Output.{Output}
 
 -- the most that a length is counted to
@@ -20,6 +21,6 @@ pub record Writes (o o' : Output) (more : List ℕ) : Type 0 where
 
 -- the text stands in front of the place and the rest is as it was, and its length is answered; or the place is too short for
 -- it, and is as it was
-abbrev pub Printed : List ℕ → List ℕ → List ℕ → Result ℕ ℕ → Type 0
+abbrev pub Printed : List ℕ → List ℕ → List ℕ → Result ℕ PlaceShort → Type 0
 Printed place place' text (Ok n) = (n ≡ length text) × (place' ≡ text ++ drop (length text) place)
-Printed place place' text (Err n) = (n ≡ min (length text) most_length) × (length place < n) × (place' ≡ place)
+Printed place place' text (Err e) = (e.needed ≡ min (length text) most_length) × (length place < e.needed) × (place' ≡ place)

@@ -15,21 +15,18 @@ pub(crate) fn row_formats(chains: &[u8], k: usize) -> &[u8]
 {
     let start = chains.len().min(ROW * k);
     let end = chains.len().min(ROW * k + ROW);
-    let row = &chains[start..end];
-    if row.is_empty() {
-        return row;
+    match chains[start..end].split_first() {
+        Some((count, formats)) => &formats[..formats.len().min(*count as usize)],
+        None => &[],
     }
-    let formats = &row[1..row.len()];
-    let most = formats.len().min(row[0] as usize);
-    &formats[0..most]
 }
 
 // The code of a format.
 fn put_code(out: &mut Output, codes: &[FourCc; MOST_CODES], format: u8)
     ensures { Writes out.old out.new (code_text codes.now format) }
 {
-    if (format as usize) < MOST_CODES {
-        out.put(&codes[format as usize]);
+    if let Some(code) = codes.get(format as usize) {
+        out.put(code);
     }
 }
 
@@ -37,11 +34,11 @@ fn put_code(out: &mut Output, codes: &[FourCc; MOST_CODES], format: u8)
 pub(crate) fn put_codes(out: &mut Output, codes: &[FourCc; MOST_CODES], formats: &[u8])
     ensures { Writes out.old out.new (codes_text codes.now formats.now) }
 {
-    if formats.is_empty() {
+    let Some((first, others)) = formats.split_first() else {
         return;
-    }
-    put_code(out, codes, formats[0]);
-    for format in &formats[1..formats.len()] {
+    };
+    put_code(out, codes, *first);
+    for format in others {
         out.put(b" ");
         put_code(out, codes, *format);
     }

@@ -1,4 +1,4 @@
-use Rattle.std.proofs.Common.{◌≡◌, ◌<◌, [], ◌++◌, length, drop, refl, ◌∙◌, arith, rules}
+use Rattle.std.proofs.Common.{◌≡◌, ◌<◌, [], ◌++◌, length, map, drop, refl, ◌∙◌, arith, rules}
 use Rattle.listing.specs.Output.{most_length}
 use Rattle.listing.specs.Text.{answer_text}
 use Rattle.listing.proofs.Writing.{printed}

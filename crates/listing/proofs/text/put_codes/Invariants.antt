@@ -1,9 +1,9 @@
 -- The codes so far of the formats after the first.
-use Rattle.std.proofs.Common.{◌-◌, ◌++◌, length, take, drop, codes}
+use Rattle.std.proofs.Common.{◌++◌, take, codes}
 use Rattle.std.specs.List.{flat_map}
 use Rattle.listing.specs.Output.{Writes}
 use Rattle.listing.specs.Text.{code_text}
 use Rattle.listing.proofs.text.put_codes.Given as goal
 
 abbrev pub invariant-loop-format : goal.invariant-loop-format
-invariant-loop-format l = Writes l.initial.out l.out (flat_map (λ g. codes " " ++ code_text l.codes g) (take l.format-index (take (length l.formats - 1) (drop 1 l.formats))))
+invariant-loop-format l = Writes l.initial.out l.out (flat_map (λ g. codes " " ++ code_text l.codes g) (take l.format-index l.others))
