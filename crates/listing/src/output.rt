@@ -53,7 +53,7 @@ impl<'a> Output<'a> {
     pub fn put_signed(&mut self, z: i32)
         ensures { Writes self.old self.new (signed_decimal z) }
     {
-        if z < 0 {
+        if z.is_negative() {
             self.put(b"-");
         }
         self.put_number(z.unsigned_abs() as usize);
