@@ -28,83 +28,59 @@ struct Memory<C> {
     costs: Vec<C>,
 }
 
-// The item so many times.
-fn repeat<T: Copy>(heap: Global, item: T, count: usize) -> Result<Vec<T>, AllocError> {
-    let mut items = Vec::with_capacity(heap, count)?;
-    for _ in 0..count {
-        items.push(item)?;
+impl<C: Copy> Memory<C> {
+    fn new(heap: Global, cost: C) -> Result<Memory<C>, AllocError> {
+        let nothing = Cell {
+            card: None,
+            least: None,
+        };
+        Ok(Memory {
+            entries: vec![in heap; None; TICKET_ENTRIES]?,
+            table: vec![in heap; nothing; CELLS]?,
+            costs: vec![in heap; cost; MOST_LEGS]?,
+        })
     }
-    Ok(items)
-}
 
-fn new_memory<C: Copy>(heap: Global, cost: C) -> Result<Memory<C>, AllocError> {
-    let nothing = Cell {
-        card: None,
-        least: None,
-    };
-    Ok(Memory {
-        entries: repeat(heap, None, TICKET_ENTRIES)?,
-        table: repeat(heap, nothing, CELLS)?,
-        costs: repeat(heap, cost, MOST_LEGS)?,
-    })
-}
-
-// Fills the buffer from standard input: how many bytes there were.
-fn fill(rt: &HostRuntime, buffer: &mut [u8]) -> io::Result<usize> {
-    let mut input = rt.stdin();
-    let mut length = 0;
-    let end = buffer.len();
-    while length < end {
-        let count = input.read(&mut buffer[length..end])?;
-        if count == 0 {
-            break;
+    // The memory, lent.
+    fn sheets(&mut self) -> Sheets<'_, C> {
+        Sheets {
+            entries: self.entries.as_mut_slice(),
+            table: self.table.as_mut_slice(),
+            costs: self.costs.as_mut_slice(),
         }
-        length += count;
     }
-    Ok(length)
 }
 
 // What is on standard input, but no more of it than one byte over what a ticket may have.
-fn read_ticket(rt: &HostRuntime) -> anyhow::Result<Vec<u8>> {
-    let mut text = repeat(rt.alloc(), 0, MOST_BYTES + 1)?;
-    let length = fill(rt, text.as_mut_slice())?;
-    text.truncate(length);
+fn read_ticket(rt: &HostRuntime) -> io::Result<Vec<u8>> {
+    let mut text = Vec::new(rt.alloc());
+    rt.stdin()
+        .take(MOST_BYTES as u64 + 1)
+        .read_to_end(&mut text)?;
     Ok(text)
 }
 
 fn run(rt: &HostRuntime) -> anyhow::Result<()> {
     let text = read_ticket(rt)?;
-    let mut delay = new_memory(rt.alloc(), Delay { lines: 0 })?;
-    let mut depth = new_memory(rt.alloc(), Depth { bits: 0 })?;
+    let mut delay = Memory::new(rt.alloc(), Delay { lines: 0 })?;
+    let mut depth = Memory::new(rt.alloc(), Depth { bits: 0 })?;
     let mut chains = [255; CHAIN_BYTES];
     let mut codes = [[0; 4]; MOST_CODES];
     let mut ends = [Ends { from: 0, to: 0 }; MOST_LEGS];
-    let mut place = repeat(rt.alloc(), 0, ANSWER_BYTES)?;
-    let answered = answer_ticket(
+    let mut place = vec![in rt.alloc(); 0; ANSWER_BYTES]?;
+    let length = answer_ticket(
         text.as_slice(),
-        Sheets {
-            entries: delay.entries.as_mut_slice(),
-            table: delay.table.as_mut_slice(),
-            costs: delay.costs.as_mut_slice(),
-        },
-        Sheets {
-            entries: depth.entries.as_mut_slice(),
-            table: depth.table.as_mut_slice(),
-            costs: depth.costs.as_mut_slice(),
-        },
+        delay.sheets(),
+        depth.sheets(),
         &mut chains,
         &mut codes,
         &mut ends,
         place.as_mut_slice(),
-    );
-    match answered {
-        Ok(length) => {
-            place.truncate(length);
-            rt.stdout().write_all(place.as_slice())?;
-            Ok(())
-        }
-        Err(_) => Err(anyhow!("the answer is too long")),
-    }
+    )
+    .map_err(|_| anyhow!("the answer is too long"))?;
+    place.truncate(length);
+    rt.stdout().write_all(place.as_slice())?;
+    Ok(())
 }
 
 fn main(rt: HostRuntime) -> anyhow::Result<()> {
