@@ -6,7 +6,7 @@ use Rattle.ticket_call.specs.declared.fault.Refusal.{Refusal}
 use Rattle.ticket_call.specs.declared.serve.Granted.{Granted}
 use Rattle.listing.specs.declared.answer.PlaceShort.{PlaceShort}
 use Rattle.listing.specs.Output.{Printed}
-use Rattle.listing.specs.Text.{answer_text}
+use Rattle.listing.specs.Text.{text_from}
 
 -- The ticket is answered; a granted one has least chains for its legs over the cards that its text says; and its answer's text,
 -- from what is then in the memory, is printed into the place.
@@ -14,4 +14,4 @@ pub record Answered (text : List ℕ) (m m' : Memory) (place place' : List ℕ) 
   pub answer : Result Granted Refusal
   pub right : TicketAnswer text m m' answer
   pub whole : WholeAnswer text m' answer
-  pub printed : Printed place place' (answer_text m'.common.codes m'.common.ends m'.delay.costs m'.depth.costs m'.common.chains answer) r
+  pub printed : Printed place place' (text_from m' answer) r

@@ -12,6 +12,7 @@ use Rattle.bay.specs.Routes.{no_ends}
 use Rattle.bay.specs.declared.legs.Ends.{Ends}
 use Rattle.ticket.specs.declared.line.Kind.{Kind}
 use Rattle.ticket.specs.declared.line.Kind.TheVariants as kind
+use Rattle.ticket_call.specs.Answers.{Memory}
 use Rattle.ticket_call.specs.Faults.{ticket_code}
 use Rattle.ticket_call.specs.declared.fault.Refusal.{Refusal}
 use Rattle.ticket_call.specs.declared.serve.Granted.{Granted}
@@ -91,3 +92,7 @@ numbers_of delays depths kind.Depth = map (λ d. pos d.bits) depths
 abbrev pub answer_text : List (List ℕ) → List Ends → List Delay → List Depth → List ℕ → Result Granted Refusal → List ℕ
 answer_text fourccs ends delays depths chains (Ok granted) = listing_text fourccs ends (numbers_of delays depths granted.kind) chains granted.legs
 answer_text fourccs ends delays depths chains (Err refusal) = refusal_text fourccs chains refusal
+
+-- the text of an answer, from what its ticket has left in the memory
+abbrev pub text_from : Memory → Result Granted Refusal → List ℕ
+text_from m = answer_text m.common.codes m.common.ends m.delay.costs m.depth.costs m.common.chains

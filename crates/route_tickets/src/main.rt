@@ -8,7 +8,7 @@ use listing::answer_ticket;
 use std::alloc::{AllocError, Global};
 use std::io;
 use std::io::{Read, Write};
-use ticket_call::{Ends, MOST_BYTES, MOST_CODES, MOST_LEGS, Sheets, TICKET_ENTRIES};
+use ticket_call::{Ends, MOST_BYTES, MOST_CODES, MOST_LEGS, Shared, Sheets, TICKET_ENTRIES};
 use walks::{Cell, ROW};
 
 // As many cells as a register of the most formats wants.
@@ -70,11 +70,13 @@ fn run(rt: &HostRuntime) -> anyhow::Result<()> {
     let mut place = vec![in rt.alloc(); 0; ANSWER_BYTES]?;
     let length = answer_ticket(
         text.as_slice(),
-        delay.sheets(),
-        depth.sheets(),
-        &mut chains,
-        &mut codes,
-        &mut ends,
+        &mut delay.sheets(),
+        &mut depth.sheets(),
+        &mut Shared {
+            chains: &mut chains,
+            codes: &mut codes,
+            ends: &mut ends,
+        },
         place.as_mut_slice(),
     )
     .map_err(|_| anyhow!("the answer is too long"))?;

@@ -24,6 +24,8 @@ use Rattle.ticket_call.specs.Said.{Said, begins, bay_causes, ticket_entries, in_
 use Rattle.ticket_call.specs.declared.fault.Refusal.{Refusal}
 use Rattle.ticket_call.specs.declared.fault.TicketFault.TheVariants.{TooLong, Unfit}
 use Rattle.ticket_call.specs.declared.serve.Granted.{Granted}
+use Rattle.ticket_call.specs.declared.serve.Sheets.{Sheets}
+use Rattle.ticket_call.specs.declared.serve.Shared.{Shared}
 
 -- a ticket may have so many bytes
 abbrev pub most_bytes : ℕ
@@ -43,6 +45,24 @@ pub record Common : Type 0 where
   pub chains : List ℕ
   pub codes : List (List ℕ)
   pub ends : List Ends
+
+-- what lies in the memory that is lent for one kind, and in that for every kind
+abbrev pub of_sheets : {C : Type 0} → Sheets C → OfKind C
+of_sheets s = of_lists s.entries.now s.table.now s.costs.now
+
+abbrev pub of_shared : Shared → Common
+of_shared s = record { chains = s.chains.now; codes = s.codes.now; ends = s.ends.now }
+
+-- the places lent are the same ones after a call
+pub record SameSheets {C : Type 0} (s s' : Sheets C) : Type 0 where
+  pub entries : s'.entries.ghost_name ≡ s.entries.ghost_name
+  pub table : s'.table.ghost_name ≡ s.table.ghost_name
+  pub costs : s'.costs.ghost_name ≡ s.costs.ghost_name
+
+pub record SameShared (s s' : Shared) : Type 0 where
+  pub chains : s'.chains.ghost_name ≡ s.chains.ghost_name
+  pub codes : s'.codes.ghost_name ≡ s.codes.ghost_name
+  pub ends : s'.ends.ghost_name ≡ s.ends.ghost_name
 
 -- what route works on
 abbrev pub desk : {C : Type 0} → List Leg → OfKind C → Common → Desk C
@@ -108,6 +128,9 @@ pub record Memory : Type 0 where
   pub delay : OfKind Delay
   pub depth : OfKind Depth
   pub common : Common
+
+abbrev pub of_memory : Sheets Delay → Sheets Depth → Shared → Memory
+of_memory delay depth shared = record { delay = of_sheets delay; depth = of_sheets depth; common = of_shared shared }
 
 module _ (text : List ℕ) (m m' : Memory) (answer : Result Granted Refusal) where
   -- refused for the length

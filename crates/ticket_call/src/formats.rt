@@ -1,5 +1,5 @@
 // The format lines of a ticket: each format has its number and its code.
-ghost use Rattle.std.specs.Prelude.{◌≡◌, ◌<◌, ◌≤◌};
+ghost use Rattle.std.specs.Prelude.{◌≡◌, ◌<◌, ◌≤◌, length};
 ghost use Rattle.ticket_call.specs.Said.{used};
 ghost use Rattle.ticket_call.specs.Steps.{FormatAnswer, FormatsAnswer};
 
@@ -53,7 +53,8 @@ pub(crate) fn read_formats<C: TicketCost>(
     codes: &mut [FourCc; MOST_CODES],
 ) -> Result<usize, Refusal>
     requires { n ≤ 64 }
-    ensures { FormatsAnswer C.Cost.algebra C.Cost.value C.TicketCost.reads text.now from n codes.old codes.new result }
+    ensures long { length codes.new ≡ 64 }
+    ensures answer { FormatsAnswer C.Cost.algebra C.Cost.value C.TicketCost.reads text.now from n codes.old codes.new result }
 {
     let mut place = from;
     for k in 0..n {

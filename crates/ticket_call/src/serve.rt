@@ -1,9 +1,9 @@
 // A ticket, from its text to its answer.
-ghost use Rattle.std.specs.Prelude.{◌≡◌, ◌≤◌, [], length};
+ghost use Rattle.std.specs.Prelude.{◌≡◌, ◌≤◌, []};
 ghost use Rattle.registers.specs.Fault.{first_cause};
 ghost use Rattle.bay.specs.Bays.{plain};
 ghost use Rattle.bay.specs.Legs.{booked};
-ghost use Rattle.ticket_call.specs.Answers.{LinesAnswer, KindAnswer, TicketAnswer, of_lists};
+ghost use Rattle.ticket_call.specs.Answers.{LinesAnswer, KindAnswer, TicketAnswer, of_lists, of_sheets, of_shared, of_memory, SameSheets, SameShared};
 ghost use Rattle.ticket_call.specs.Faults.{told_of};
 ghost use Rattle.ticket_call.specs.Said.{said, bay_causes};
 
@@ -33,6 +33,15 @@ pub struct Sheets<'a, C> {
     pub entries: &'a mut [Option<Entry<C>>],
     pub table: &'a mut [Cell<C>],
     pub costs: &'a mut [C],
+}
+
+// The memory that is lent for the tickets of every kind: the chain sheet of route, and places for the codes of the formats
+// and the ends of the legs.
+#[derive(Drop)]
+pub struct Shared<'a> {
+    pub chains: &'a mut [u8],
+    pub codes: &'a mut [FourCc; MOST_CODES],
+    pub ends: &'a mut [Ends; MOST_LEGS],
 }
 
 // What a granted ticket is answered: its kind, its number of formats and its number of legs.
@@ -65,18 +74,17 @@ fn route_lines<C: TicketCost, R: Register<Cost = C>>(
     bay: &mut Bay<R>,
     table: &mut [Cell<C>],
     costs: &mut [C],
-    chains: &mut [u8],
-    codes: &mut [FourCc; MOST_CODES],
-    ends: &mut [Ends; MOST_LEGS],
+    shared: &mut Shared<'_>,
 ) -> Result<usize, Refusal>
     requires size { (R.Register.holds bay.old.register).size ≡ n }
     requires few { n ≤ 64 }
     requires legs { booked bay.old.legs ≡ [] }
-    ensures { LinesAnswer C.Cost.algebra C.Cost.value C.TicketCost.reads text.now from (record { entries = []; table = table.old; costs = costs.old }) (record { entries = []; table = table.new; costs = costs.new }) (record { chains = chains.entry.now; codes = codes.old; ends = ends.old }) (record { chains = chains.exit.now; codes = codes.new; ends = ends.new }) result (said [] (plain C.Cost.algebra C.Cost.value R.Register.holds bay.old)) }
+    ensures answer { LinesAnswer C.Cost.algebra C.Cost.value C.TicketCost.reads text.now from (of_lists [] table.old costs.old) (of_lists [] table.new costs.new) (of_shared shared.old) (of_shared shared.new) result (said [] (plain C.Cost.algebra C.Cost.value R.Register.holds bay.old)) }
+    ensures shared { SameShared shared.old shared.new }
 {
-    let orders = read_formats::<C>(text, from, n, codes)?;
-    let end = read_orders(text, orders, bay, ends)?;
-    at_byte(bay.route(table, costs, chains), end)
+    let orders = read_formats::<C>(text, from, n, shared.codes)?;
+    let end = read_orders(text, orders, bay, shared.ends)?;
+    at_byte(bay.route(table, costs, shared.chains), end)
 }
 
 // A ticket of one kind, after its bay line: the number of legs.
@@ -84,31 +92,30 @@ fn serve<C: TicketCost>(
     text: &[u8],
     from: usize,
     n: usize,
-    entries: &mut [Option<Entry<C>>],
-    table: &mut [Cell<C>],
-    costs: &mut [C],
-    chains: &mut [u8],
-    codes: &mut [FourCc; MOST_CODES],
-    ends: &mut [Ends; MOST_LEGS],
+    sheets: &mut Sheets<'_, C>,
+    shared: &mut Shared<'_>,
 ) -> Result<usize, Refusal>
-    ensures { KindAnswer C.Cost.algebra C.Cost.value C.TicketCost.reads text.now from (record { entries = entries.entry.now; table = table.old; costs = costs.old }) (record { entries = entries.exit.now; table = table.new; costs = costs.new }) (record { chains = chains.entry.now; codes = codes.old; ends = ends.old }) (record { chains = chains.exit.now; codes = codes.new; ends = ends.new }) result n }
+    ensures answer { KindAnswer C.Cost.algebra C.Cost.value C.TicketCost.reads text.now from (of_sheets sheets.old) (of_sheets sheets.new) (of_shared shared.old) (of_shared shared.new) result n }
+    ensures sheets { SameSheets sheets.old sheets.new }
+    ensures shared { SameShared shared.old shared.new }
 {
-    judge_bay(n, entries.len())?;
+    judge_bay(n, sheets.entries.len())?;
+    let entries = &mut *sheets.entries;
     let mut bay = Bay::new(List::new(n, &mut entries[0..TICKET_ENTRIES]));
-    route_lines(text, from, n, &mut bay, table, costs, chains, codes, ends)
+    route_lines(text, from, n, &mut bay, sheets.table, sheets.costs, shared)
 }
 
-// Routes a ticket, or refuses it with the byte. It works in the memory lent for its kind; the chain sheet, the codes of the
-// formats and the ends of the legs are the same for all kinds.
+// Routes a ticket, or refuses it with the byte. It works in the memory lent for its kind, and in that for every kind.
 pub fn route_ticket(
     text: &[u8],
-    delay: Sheets<'_, Delay>,
-    depth: Sheets<'_, Depth>,
-    chains: &mut [u8],
-    codes: &mut [FourCc; MOST_CODES],
-    ends: &mut [Ends; MOST_LEGS],
+    delay: &mut Sheets<'_, Delay>,
+    depth: &mut Sheets<'_, Depth>,
+    shared: &mut Shared<'_>,
 ) -> Result<Granted, Refusal>
-    ensures { TicketAnswer text.now (record { delay = of_lists delay.entry.entries.now delay.entry.table.now delay.entry.costs.now; depth = of_lists depth.entry.entries.now depth.entry.table.now depth.entry.costs.now; common = record { chains = chains.entry.now; codes = codes.old; ends = ends.old } }) (record { delay = of_lists delay.exit.0.now delay.exit.1.0.now delay.exit.1.1.0.now; depth = of_lists depth.exit.0.now depth.exit.1.0.now depth.exit.1.1.0.now; common = record { chains = chains.exit.now; codes = codes.new; ends = ends.new } }) result }
+    ensures answer { TicketAnswer text.now (of_memory delay.old depth.old shared.old) (of_memory delay.new depth.new shared.new) result }
+    ensures delay { SameSheets delay.old delay.new }
+    ensures depth { SameSheets depth.old depth.new }
+    ensures shared { SameShared shared.old shared.new }
 {
     if text.len() > MOST_BYTES {
         return Err(TicketFault::TooLong.at(MOST_BYTES));
@@ -118,26 +125,8 @@ pub fn route_ticket(
         return Err(TicketFault::Unfit.at(0));
     };
     let legs = match kind {
-        Kind::Delay => {
-            let Sheets {
-                entries,
-                table,
-                costs,
-            } = delay;
-            serve(
-                text, read.end, size, entries, table, costs, chains, codes, ends,
-            )?
-        }
-        Kind::Depth => {
-            let Sheets {
-                entries,
-                table,
-                costs,
-            } = depth;
-            serve(
-                text, read.end, size, entries, table, costs, chains, codes, ends,
-            )?
-        }
+        Kind::Delay => serve(text, read.end, size, delay, shared)?,
+        Kind::Depth => serve(text, read.end, size, depth, shared)?,
     };
     Ok(Granted { kind, size, legs })
 }

@@ -14,14 +14,14 @@ loop-k-preserved g c = (
       c.loop-k.invariant.1 (omega (arith, c.loop-k.invariant.0)) c.loop-k-test.true c.read_format.new.codes c.in_ok-place.place c.in_ok-place.ensures,
 )
 
-pub returns-in_err-place : goal.returns-in_err-place
-returns-in_err-place g c =
+pub returns-in_err-place-clause-answer : goal.returns-in_err-place-clause-answer
+returns-in_err-place-clause-answer g c =
     let p = err_from_is_err_and c.from_residual.result c.from_residual.ensures.1 in
     rw (p.1, p.2)
     (formats_stop g.C.Cost.algebra g.C.Cost.value g.C.TicketCost.reads c.args.text.now c.args.from c.args.n c.loop-k.k c.args.codes.now c.loop-k.codes c.loop-k.place
     c.loop-k.invariant.1 (omega (arith, c.loop-k.invariant.0)) c.loop-k-test.true c.read_format.new.codes _ c.in_err-place.ensures)
 
-pub returns : goal.returns
-returns g c =
+pub returns-clause-answer : goal.returns-clause-answer
+returns-clause-answer g c =
     let e : c.loop-k.k ≡ c.args.n = omega (arith, c.loop-k.auto.k-end, c.loop-k-test.false) in
     subst (λ k. FormatsRead g.C.Cost.algebra g.C.Cost.value g.C.TicketCost.reads c.args.text.now c.args.from c.args.n k c.args.codes.now c.loop-k.codes c.loop-k.place) e c.loop-k.invariant.1

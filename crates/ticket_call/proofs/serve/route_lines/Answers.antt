@@ -8,22 +8,22 @@ use Rattle.ticket_call.specs.Said.{said}
 use Rattle.ticket_call.proofs.Serving.{front_is, stops_after, completes_after}
 use Rattle.ticket_call.proofs.serve.route_lines.Goals as goal
 
-pub returns-in_err-orders : goal.returns-in_err-orders
-returns-in_err-orders g c =
+pub returns-in_err-orders-clause-answer : goal.returns-in_err-orders-clause-answer
+returns-in_err-orders-clause-answer g c =
     let q = err_from_is_err_and c.from_residual.result c.from_residual.ensures.1 in
     rw (q.1, q.2) (inl (record {
       refusal = c.in_err-orders.field-0.0;
-      stops = c.in_err-orders.ensures (plain g.C.Cost.algebra g.C.Cost.value g.R.Register.holds c.args.bay.now) c.requires.size;
+      stops = c.in_err-orders.ensures.answer (plain g.C.Cost.algebra g.C.Cost.value g.R.Register.holds c.args.bay.now) c.requires.size;
       answers = refl;
       untouched = record { table = refl; costs = refl; chains = refl };
     }))
 
-pub returns-in_err-end : goal.returns-in_err-end
-returns-in_err-end g c =
+pub returns-in_err-end-clause-answer : goal.returns-in_err-end-clause-answer
+returns-in_err-end-clause-answer g c =
     let q = err_from_is_err_and c.from_residual-in_err-end.result c.from_residual-in_err-end.ensures.1 in
     let p = plain g.C.Cost.algebra g.C.Cost.value g.R.Register.holds c.args.bay.now in
-    let formats = c.in_ok-orders.ensures in
-    let long = length-take-le c.args.n c.read_formats.new.codes (omega (arith, c.read_formats.array_long, c.requires.few)) in
+    let formats = c.in_ok-orders.ensures.answer in
+    let long = length-take-le c.args.n c.read_formats.new.codes (omega (arith, c.read_formats.ensures.long, c.requires.few)) in
     rw (q.1, q.2) (inl (record {
       refusal = c.in_err-end.field-0.0;
       stops = stops_after g.C.Cost.algebra g.C.Cost.value g.C.TicketCost.reads c.args.text.now (said [] p) c.args.from formats.lines c.in_ok-orders.orders (said (take c.args.n c.read_formats.new.codes) p)
@@ -32,14 +32,14 @@ returns-in_err-end g c =
       untouched = record { table = refl; costs = refl; chains = refl };
     }))
 
-pub returns : goal.returns
-returns g c =
+pub returns-clause-answer : goal.returns-clause-answer
+returns-clause-answer g c =
     let p = plain g.C.Cost.algebra g.C.Cost.value g.R.Register.holds c.args.bay.now in
     let p' = plain g.C.Cost.algebra g.C.Cost.value g.R.Register.holds c.read_orders.new.bay in
-    let formats = c.in_ok-orders.ensures in
+    let formats = c.in_ok-orders.ensures.answer in
     let orders = c.in_ok-end.ensures in
     let codes = take c.args.n c.read_formats.new.codes in
-    let long = length-take-le c.args.n c.read_formats.new.codes (omega (arith, c.read_formats.array_long, c.requires.few)) in
+    let long = length-take-le c.args.n c.read_formats.new.codes (omega (arith, c.read_formats.ensures.long, c.requires.few)) in
     inr (record {
       place = c.in_ok-end.end;
       then = said codes p';
@@ -50,6 +50,6 @@ returns g c =
       result = c.route.result;
       route = c.route.ensures.answer;
       answers = c.at_byte.ensures;
-      codes = front_is c.args.n c.read_formats.new.codes c.args.codes.now long formats.beyond;
+      codes = front_is c.args.n c.read_formats.new.codes c.args.shared.now.codes.now long formats.beyond;
       ends = orders.written;
     })

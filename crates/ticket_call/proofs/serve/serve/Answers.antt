@@ -10,28 +10,28 @@ use Rattle.ticket_call.proofs.serve.serve.Goals as goal
 
 pub route_lines-requires : goal.route_lines-requires
 route_lines-requires g c =
-    let fits = bay_fits c.args.n (length c.args.entries.now) (sym c.in_ok-judge_bay.ensures) in
+    let fits = bay_fits c.args.n (length c.args.sheets.now.entries.now) (sym c.in_ok-judge_bay.ensures) in
     record {
       size = ap (λ r. nearest_size r.n) c.new-bay.ensures.register ∙ ap nearest_size c.new.ensures.size ∙ nearest_is c.args.n fits.0;
       few = (size_few c.args.n fits.0).1;
       legs = c.new-bay.ensures.legs;
     }
 
-pub returns : goal.returns
-returns g c =
+pub returns-clause-answer : goal.returns-clause-answer
+returns-clause-answer g c =
     let A = g.C.Cost.algebra in
     let value = g.C.Cost.value in
     let none = sym c.in_ok-judge_bay.ensures in
-    let fits = bay_fits c.args.n (length c.args.entries.now) none in
-    let part = take 512 c.args.entries.now in
-    let long = length-take-le 512 c.args.entries.now fits.1 in
+    let fits = bay_fits c.args.n (length c.args.sheets.now.entries.now) none in
+    let part = take 512 c.args.sheets.now.entries.now in
+    let long = length-take-le 512 c.args.sheets.now.entries.now fits.1 in
     let m = listed (admitted_by A value) c.new.result.n c.new.result.entries.now in
     let made = ap (λ r. meant value (listed (admitted_by A value) r.n r.entries.now)) c.new-bay.ensures.register ∙ list_begins A value c.args.n part m fits.0 long c.new.ensures.holds in
     record {
       answered = inr (record {
         no_cause = none;
-        lines = lines_with_entries A value g.C.TicketCost.reads c.args.text.now c.args.from c.args.entries.now _ c.args.table.now _ c.args.costs.now _ _ _ _ _ (begins c.args.n)
-            (λ i. record { codes = []; plain = record { register = made i; legs = ap (map ends) c.new-bay.ensures.legs i } }) c.route_lines.ensures;
+        lines = lines_with_entries A value g.C.TicketCost.reads c.args.text.now c.args.from c.args.sheets.now.entries.now _ c.args.sheets.now.table.now _ c.args.sheets.now.costs.now _ _ _ _ _ (begins c.args.n)
+            (λ i. record { codes = []; plain = record { register = made i; legs = ap (map ends) c.new-bay.ensures.legs i } }) c.route_lines.ensures.answer;
       });
       beyond = search (arith, entries_beyond);
     }
