@@ -24,7 +24,8 @@ use Rattle.ticket_call.specs.declared.fault.Refusal.{Refusal}
 use Rattle.ticket_call.specs.declared.serve.Granted.{Granted}
 use Rattle.ticket_laws.proofs.Deciding.{one_read, not_both, one_way, refused_not_passed, none≢some, looped_gains}
 use Rattle.listing.specs.Output.{Printed}
-use Rattle.listing.specs.Text.{listing_text, leg_text, formats_of, answer_text, pieces}
+use Rattle.listing.specs.Text.{listing_text, leg_text, formats_of, text_from, pieces}
+use Rattle.listing.specs.declared.answer.PlaceShort.{PlaceShort}
 use Rattle.worked.specs.Sample.{sample_ticket, sample_listing, Room, SampleAnswered}
 use Rattle.worked.proofs.SampleLines.{bay_read, bay_is_read, sample_said, sample_completes}
 use Rattle.worked.proofs.SampleRoute.{card, calm, first_leg, second_leg}
@@ -121,17 +122,17 @@ module _ (m m' : Memory) (room : Room m) (answer : Result Granted Refusal) where
   of_ticket (inr (inl t)) = absurd (not_both Start sample_ticket 0 bay_read t.byte bay_is_read t.refused)
   of_ticket (inr (inr t)) = of_bay t
 
-printed_is : (place place' text : List ℕ) (r : Result ℕ ℕ) → text ≡ sample_listing → length sample_listing ≤ length place → Printed place place' text r →
+printed_is : (place place' text : List ℕ) (r : Result ℕ PlaceShort) → text ≡ sample_listing → length sample_listing ≤ length place → Printed place place' text r →
     (r ≡ Ok (length sample_listing)) × (place' ≡ sample_listing ++ drop (length sample_listing) place)
 printed_is place place' text (Ok n) e h p = (ap Ok (p.0 ∙ ap length e), p.1 ∙ ap (λ t. t ++ drop (length t) place) e)
-printed_is place place' text (Err n) e h p = absurd (omega (arith, p.0, p.1, h, ap length e))
+printed_is place place' text (Err short) e h p = absurd (omega (arith, p.0, p.1, h, ap length e))
 
 pub sample_answered : SampleAnswered
 sample_answered m m' place place' r room h a =
     let t = of_ticket m m' room a.answer a.right in
     let answer_is : a.answer ≡ Ok (record { kind = kind.Delay; size = 3; legs = 2 }) = t.2 ∙ ap (of_kind kind.Delay 3) t.1.answers in
     printed_is place place' _ r
-    (ap (answer_text m'.common.codes m'.common.ends m'.delay.costs m'.depth.costs m'.common.chains) answer_is
+    (ap (text_from m') answer_is
     ∙ lists m'.common.codes m'.common.ends (map (λ d. d.lines) m'.delay.costs) m'.common.chains (drop 3 m.common.codes) (drop 2 m.common.ends)
     t.1.codes_are t.1.ends_are t.1.paid t.1.row_0 t.1.row_1)
     h a.printed

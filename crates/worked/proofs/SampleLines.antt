@@ -1,18 +1,16 @@
 -- The lines of the sample ticket pass, and make a bay of three cards and two legs.
-use Rattle.std.proofs.Common.{◌≡◌, ℕ, ◌<◌, true, List, [], ◌∷◌, ◌++◌, length, drop, ℤ, pos, negsuc, codes, refl, arith}
+use Rattle.std.proofs.Common.{ℕ, List, [], ◌∷◌, ℤ, pos, negsuc, codes, refl, arith}
 use Rattle.std.specs.Fmt.{digits}
 use Rattle.costs.specs.Delay.{delay}
 use Rattle.costs.specs.declared.delay.Delay.{Delay}
-use Rattle.bay.specs.Plain.{Plain, step}
-use Rattle.bay.specs.declared.calls.Call.TheVariants.{Enter, Book}
 use Rattle.ticket.specs.Grammar.{IsRead}
 use Rattle.ticket.specs.declared.line.Kind.TheVariants as kind
 use Rattle.ticket.specs.declared.line.Line.{Line}
 use Rattle.ticket.specs.declared.line.Line.TheVariants.{Bay, Format, Card, Leg, End}
 use Rattle.ticket.specs.declared.line.Read.{Read}
-use Rattle.ticket.specs.declared.line.Stage.TheVariants.{Start, Formats, Cards, Legs}
+use Rattle.ticket.specs.declared.line.Stage.TheVariants.{Start}
 use Rattle.ticket_call.specs.Kinds.{delay_of}
-use Rattle.ticket_call.specs.Said.{Said, said, begins, adds, Passes, Through, Completes}
+use Rattle.ticket_call.specs.Said.{Said, begins, adds, Completes}
 use Rattle.worked.specs.Sample.{sample_ticket}
 
 abbrev read : Line → ℕ → ℕ → ℕ → Read

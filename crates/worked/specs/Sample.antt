@@ -3,6 +3,7 @@ use Rattle.std.specs.Prelude.{◌≡◌, ℕ, ◌≤◌, List, [], ◌∷◌, �
 use Rattle.ticket_call.specs.Answers.{Memory}
 use Rattle.listing.specs.Answered.{Answered}
 use Rattle.listing.specs.Text.{pieces}
+use Rattle.listing.specs.declared.answer.PlaceShort.{PlaceShort}
 
 -- a line, with its end
 abbrev pub line : List ℕ → List ℕ
@@ -38,5 +39,5 @@ pub record Room (m : Memory) : Type 0 where
 
 -- Whatever the memory and the place hold, the sample's listing is written, and nothing else is.
 abbrev pub SampleAnswered : Type 0
-SampleAnswered = (m m' : Memory) (place place' : List ℕ) (r : Result ℕ ℕ) → Room m → length sample_listing ≤ length place → Answered sample_ticket m m' place place' r →
+SampleAnswered = (m m' : Memory) (place place' : List ℕ) (r : Result ℕ PlaceShort) → Room m → length sample_listing ≤ length place → Answered sample_ticket m m' place place' r →
     (r ≡ Ok (length sample_listing)) × (place' ≡ sample_listing ++ drop (length sample_listing) place)
