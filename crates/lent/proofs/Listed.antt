@@ -13,9 +13,9 @@ use Rattle.registers.specs.declared.fault.Layer.TheVariants.{Register}
 use Rattle.registers.specs.Meaning.{meant, possible, put, standing, entered, withdrawn, enter_causes, withdraw_causes}
 use Rattle.lent.specs.Lent.{size_fits, nearest_size, how_many, begun}
 use Rattle.lent.specs.List.{or_else, live, cost_of, cost_for, first_cost, entries_fit, list_fits, list_card, listed, list_cleared, without, Free, Writable, Full}
-use Rattle.registers.proofs.Meanings.{same_meaning, possible_parts, possible_ends, is_some_mapped, standing_is, stands, enter_granted, enter_full, enter_after, withdraw_granted, withdraw_after}
+use Rattle.registers.proofs.Meanings.{same_meaning, possible_parts, possible_ends, is_some_mapped, stands, enter_granted, enter_full, enter_after, withdraw_granted, withdraw_after}
 use Rattle.lent.proofs.Totals.{bit, how_many_put, how_many_none}
-use Rattle.lent.proofs.Matrices.{fitting_size, nearest_fitting, place_row, place_column}
+use Rattle.lent.proofs.Matrices.{nearest_fitting, place_row, place_column}
 
 -- the entry at i is the first for the pair
 pub record Found {C : Type 0} (admits : C → Bool) (n : ℕ) (es : List (Option (Entry C))) (a b i : ℕ) : Type 0 where
@@ -254,8 +254,8 @@ module _ {C : Type 0} (admits : C → Bool) (n : ℕ) where
     room = λ _. free_room es i h free;
   }
 
-  pub found_read : (es : List (Option (Entry C))) (a b i : ℕ) (x : Option (Entry C)) → Found admits n es a b i → x ≡ get_or es i x → cost_for admits n x a b ≡ first_cost admits n es a b
-  found_read es a b i x f read = sym (found_cost es a b i f ∙ ap (λ y. cost_for admits n y a b) (sym (get_or_read es i x f.within read None)))
+  pub found_read : (es : List (Option (Entry C))) (a b i : ℕ) (x : Option (Entry C)) → Found admits n es a b i → x ≡ get_or es i x → cost_for admits n (get_or es i x) a b ≡ first_cost admits n es a b
+  found_read es a b i x f read = ap (λ y. cost_for admits n y a b) (sym read ∙ get_or_read es i x f.within read None) ∙ sym (found_cost es a b i f)
 
   -- where the card goes, from what the two searches answer
   module _ (es : List (Option (Entry C))) (a b : ℕ) (found : Option ℕ) (is : found ≡ position (is_for a b) es) where
@@ -277,10 +277,6 @@ module _ {C : Type 0} (admits : C → Bool) (n : ℕ) where
         by_free (Some i) h = free_writable es a b i new h.0 h.1
 
   -- steps of the loops
-  pub none_more : (es : List (Option (Entry C))) (i a b : ℕ) (x : Option (Entry C)) → i < length es → x ≡ get_or es i x → first_cost admits n (take i es) a b ≡ None → false ≡ is_some (cost_for admits n x a b) → first_cost admits n (take (i + 1) es) a b ≡ None
-  none_more es i a b x h is none not =
-      ap (λ l. first_cost admits n l a b) (take_more es i x h) ∙ (first_push (take i es) (get_or es i x) a b ∙ (ap (λ o. or_else o (cost_for admits n (get_or es i x) a b)) none ∙ (ap (λ y. cost_for admits n y a b) (sym is) ∙ no_some _ (sym not))))
-
   -- an entry whose pair was seen is free
   pub seen_free : (xs : List (Option (Entry C))) (y : Option (Entry C)) (e : Entry C) → live admits n y ≡ Some e → is_some (first_cost admits n xs e.from e.to) ≡ true → (a b : ℕ) → is_some (cost_for admits n y a b) ≡ true → is_some (first_cost admits n xs a b) ≡ true
   seen_free xs y e is seen a b h =
@@ -337,17 +333,14 @@ module _ {C : Type 0} (admits : C → Bool) (n : ℕ) where
     list_free = rw (← fits)
 
 -- calls, from what they find
-module _ {C V : Type 0} (v : C → V) (admits : C → Bool) (n : ℕ) (es : List (Option (Entry C))) (a b k : ℕ) (size : k ≡ nearest_size n) (judged : true ≡ possible k a b) (fits : true ≡ list_fits n (length es)) where
+module _ {C V : Type 0} (v : C → V) (admits : C → Bool) (n : ℕ) (es : List (Option (Entry C))) (a b k : ℕ) (size : k ≡ nearest_size n) (judged : possible k a b ≡ true) (fits : true ≡ list_fits n (length es)) where
   ends : possible (nearest_size n) a b ≡ true
-  ends = sym (judged ∙ ap (λ j. possible j a b) size)
+  ends = sym (ap (λ j. possible j a b) size) ∙ judged
 
   good : (a < n) × (b < n) × (a ≡ b → ⊥)
   good =
       let fitting = nearest_fitting n (and_parts (size_fits n) (entries_fit (length es)) (sym fits)).0 in
       possible_parts n a b (sym (ap (λ j. possible j a b) fitting) ∙ ends)
-
-  pub few_formats : n ≤ 64
-  few_formats = (fitting_size n (and_parts (size_fits n) (entries_fit (length es)) (sym fits)).0).1
 
   unsealed : (listed admits n es).sealed a b ≡ false
   unsealed = rw (← fits)
@@ -381,40 +374,42 @@ module _ {C V : Type 0} (v : C → V) (admits : C → Bool) (n : ℕ) (es : List
         let had : bit (list_card admits n es a b) ≡ 1 = rw e in
         omega (arith, counted, list_free admits n es fits, list_free admits n next still, list_count admits n es fits, counts_bound admits n es)
 
-  module _ (cost : C) (admitted : true ≡ admits cost) where
+  module _ (cost : C) (admitted : admits cost ≡ true) where
     pub list_full_answer : Full admits n es a b → Some (code Register 23 0) ≡ first_cause (enter_causes (meant v (listed admits n es)) a b (admits cost))
     list_full_answer f =
-        rw (← admitted) (enter_full v (listed admits n es) (listed admits n es) a b ends unsealed (ap is_some (list_card_is admits n es fits a b ∙ f.new)) (omega (arith, list_free admits n es fits, list_count admits n es fits, f.used)))
+        rw admitted (enter_full v (listed admits n es) (listed admits n es) a b ends unsealed (ap is_some (list_card_is admits n es fits a b ∙ f.new)) (omega (arith, list_free admits n es fits, list_count admits n es fits, f.used)))
 
     module _ (i : ℕ) (w : Writable admits n es a b i) where
-      pub list_enter_answer : None ≡ first_cause (enter_causes (meant v (listed admits n es)) a b (admits cost))
+      list_enter_answer : None ≡ first_cause (enter_causes (meant v (listed admits n es)) a b (admits cost))
       list_enter_answer =
-          rw (← admitted) (enter_granted v (listed admits n es) (listed admits n es) a b ends unsealed (λ new none. omega (arith, list_free admits n es fits, list_count admits n es fits, w.room (ap is_some (sym (list_card_is admits n es fits a b)) ∙ new))))
+          rw admitted (enter_granted v (listed admits n es) (listed admits n es) a b ends unsealed (λ new none. omega (arith, list_free admits n es fits, list_count admits n es fits, w.room (ap is_some (sym (list_card_is admits n es fits a b)) ∙ new))))
 
-      pub list_enter_after : meant v (listed admits n (set es i (Some (record { from = a; to = b; cost = cost })))) ≡ entered (meant v (listed admits n es)) a b (v cost)
+      list_enter_after : meant v (listed admits n (set es i (Some (record { from = a; to = b; cost = cost })))) ≡ entered (meant v (listed admits n es)) a b (v cost)
       list_enter_after =
           let next = set es i (Some (record { from = a; to = b; cost = cost })) in
           let long = length-set es i (Some (record { from = a; to = b; cost = cost })) in
-          let is = first_written admits n es a b i w cost (possible_ends n a b good.0 good.1 good.2) (sym admitted) in
+          let is = first_written admits n es a b i w cost (possible_ends n a b good.0 good.1 good.2) admitted in
           enter_after v (listed admits n es) (listed admits n next) a b ends cost refl (next_cards next long (Some cost) is) (next_sealed next long (Some cost) is) (next_entered next long (Some cost) is refl)
+
+      pub list_entered : (None ≡ first_cause (enter_causes (meant v (listed admits n es)) a b (admits cost))) × (meant v (listed admits n (set es i (Some (record { from = a; to = b; cost = cost })))) ≡ entered (meant v (listed admits n es)) a b (v cost))
+      list_entered = (list_enter_answer, list_enter_after)
 
   module _ (r : Option C) (value : option_map v r ≡ standing (meant v (listed admits n es)) a b) (had : is_some r ≡ true) where
     stood : is_some (list_card admits n es a b) ≡ true
     stood = sym (stands v (listed admits n es) (listed admits n es) a b ends) ∙ sym (ap is_some value) ∙ is_some_mapped v r ∙ had
 
-    pub list_withdraw_answer : None ≡ first_cause (withdraw_causes (meant v (listed admits n es)) a b)
+    list_withdraw_answer : None ≡ first_cause (withdraw_causes (meant v (listed admits n es)) a b)
     list_withdraw_answer = withdraw_granted v (listed admits n es) (listed admits n es) a b ends unsealed stood
 
-    pub list_withdraw_after : meant v (listed admits n (without admits n a b es)) ≡ withdrawn (meant v (listed admits n es)) a b
+    list_withdraw_after : meant v (listed admits n (without admits n a b es)) ≡ withdrawn (meant v (listed admits n es)) a b
     list_withdraw_after =
         let next = without admits n a b es in
         let long = length-map es (λ e. cond (is_some (cost_for admits n e a b)) None e) in
         let is = first_without admits n a b es in
         withdraw_after v (listed admits n es) (listed admits n next) a b ends refl (next_cards next long None is) (next_sealed next long None is) (next_withdrawn next long None is refl stood)
 
-  pub list_card_value : (r : Option C) → r ≡ first_cost admits n es a b → option_map v r ≡ standing (meant v (listed admits n es)) a b
-  list_card_value r is =
-      sym (standing_is v (listed admits n es) (listed admits n es) a b ends ∙ ap (option_map v) (list_card_is admits n es fits a b ∙ sym is))
+    pub list_withdrawn : (None ≡ first_cause (withdraw_causes (meant v (listed admits n es)) a b)) × (meant v (listed admits n (without admits n a b es)) ≡ withdrawn (meant v (listed admits n es)) a b)
+    list_withdrawn = (list_withdraw_answer, list_withdraw_after)
 
 -- a list in cleared memory
 pub list_begins : {C : Type 0} (admits : C → Bool) (n : ℕ) (es : List (Option (Entry C))) → listed admits n (list_cleared n es) ≡ begun n (list_fits n (length es)) (length es)

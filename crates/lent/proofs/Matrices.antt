@@ -155,9 +155,9 @@ cleared_begins {C = C} admits n places =
             card_at admits n (matrix_cleared n places) (same ∙ e) a b p ∙ ap (λ l. readable admits (get_or l (a * n + b) None)) is ∙ ap (readable admits) (get_or_append_left (replicate (n * n) None) (drop (n * n) places) None (a * n + b) (rw length-replicate below) ∙ get_or-replicate (n * n) (a * n + b) None None below)
 
 -- granted calls, from what they find
-module _ {C V : Type 0} (v : C → V) (admits : C → Bool) (n : ℕ) (places : List (Option C)) (a b k : ℕ) (size : k ≡ nearest_size n) (judged : true ≡ possible k a b) (fits : true ≡ matrix_fits n (length places)) where
+module _ {C V : Type 0} (v : C → V) (admits : C → Bool) (n : ℕ) (places : List (Option C)) (a b k : ℕ) (size : k ≡ nearest_size n) (judged : possible k a b ≡ true) (fits : true ≡ matrix_fits n (length places)) where
   ends : possible (nearest_size n) a b ≡ true
-  ends = sym (judged ∙ ap (λ j. possible j a b) size)
+  ends = sym (ap (λ j. possible j a b) size) ∙ judged
 
   good : (a < n) × (b < n) × (a ≡ b → ⊥)
   good =
@@ -170,31 +170,37 @@ module _ {C V : Type 0} (v : C → V) (admits : C → Bool) (n : ℕ) (places : 
   unsealed : (matrix admits n places).sealed a b ≡ false
   unsealed = rw (← fits)
 
-  module _ (cost : C) (admitted : true ≡ admits cost) where
+  module _ (cost : C) (admitted : admits cost ≡ true) where
     reads : readable admits (Some cost) ≡ Some cost
-    reads = rw (← admitted)
+    reads = rw admitted
 
-    pub matrix_enter_answer : None ≡ first_cause (enter_causes (meant v (matrix admits n places)) a b (admits cost))
+    matrix_enter_answer : None ≡ first_cause (enter_causes (meant v (matrix admits n places)) a b (admits cost))
     matrix_enter_answer =
-        rw (← admitted) (enter_granted v (matrix admits n places) (matrix admits n places) a b ends unsealed (room admits n places (sym fits) a b good.0 good.1 good.2 (Some cost) (ap is_some reads)))
+        rw admitted (enter_granted v (matrix admits n places) (matrix admits n places) a b ends unsealed (room admits n places (sym fits) a b good.0 good.1 good.2 (Some cost) (ap is_some reads)))
 
-    pub matrix_enter_after : meant v (matrix admits n (set places (a * n + b) (Some cost))) ≡ entered (meant v (matrix admits n places)) a b (v cost)
+    matrix_enter_after : meant v (matrix admits n (set places (a * n + b) (Some cost))) ≡ entered (meant v (matrix admits n places)) a b (v cost)
     matrix_enter_after =
         enter_after v (matrix admits n places) (matrix admits n (set places (a * n + b) (Some cost))) a b ends cost refl
         (λ c d. card_set admits n places (sym fits) a b good.0 good.1 good.2 (Some cost) c d ∙ ap (λ o. put (matrix_card admits n places) a b o c d) reads)
         (λ c d. ap (λ k. not (matrix_fits n k)) (length-set places (a * n + b) (Some cost)))
         (entered_free admits n places (sym fits) a b good.0 good.1 good.2 (Some cost) (ap is_some reads))
 
+    pub matrix_entered : (None ≡ first_cause (enter_causes (meant v (matrix admits n places)) a b (admits cost))) × (meant v (matrix admits n (set places (a * n + b) (Some cost))) ≡ entered (meant v (matrix admits n places)) a b (v cost))
+    matrix_entered = (matrix_enter_answer, matrix_enter_after)
+
   module _ (r : Option C) (is : option_map v r ≡ standing (meant v (matrix admits n places)) a b) (had : is_some r ≡ true) where
     stood : is_some (matrix_card admits n places a b) ≡ true
     stood = sym (stands v (matrix admits n places) (matrix admits n places) a b ends) ∙ sym (ap is_some is) ∙ is_some_mapped v r ∙ had
 
-    pub matrix_withdraw_answer : None ≡ first_cause (withdraw_causes (meant v (matrix admits n places)) a b)
+    matrix_withdraw_answer : None ≡ first_cause (withdraw_causes (meant v (matrix admits n places)) a b)
     matrix_withdraw_answer = withdraw_granted v (matrix admits n places) (matrix admits n places) a b ends unsealed stood
 
-    pub matrix_withdraw_after : meant v (matrix admits n (set places (a * n + b) None)) ≡ withdrawn (meant v (matrix admits n places)) a b
+    matrix_withdraw_after : meant v (matrix admits n (set places (a * n + b) None)) ≡ withdrawn (meant v (matrix admits n places)) a b
     matrix_withdraw_after =
         withdraw_after v (matrix admits n places) (matrix admits n (set places (a * n + b) None)) a b ends refl
         (card_set admits n places (sym fits) a b good.0 good.1 good.2 None)
         (λ c d. ap (λ k. not (matrix_fits n k)) (length-set places (a * n + b) None))
         (withdrawn_free admits n places (sym fits) a b good.0 good.1 good.2 None refl stood)
+
+    pub matrix_withdrawn : (None ≡ first_cause (withdraw_causes (meant v (matrix admits n places)) a b)) × (meant v (matrix admits n (set places (a * n + b) None)) ≡ withdrawn (meant v (matrix admits n places)) a b)
+    matrix_withdrawn = (matrix_withdraw_answer, matrix_withdraw_after)

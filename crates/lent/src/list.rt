@@ -160,9 +160,7 @@ impl<'a, C: Cost> Register for List<'a, C> {
     }
 
     fn card(&self, from: Format, to: Format) -> Option<C> {
-        if judge_ends(nearest_size(self.n), from, to).is_err()
-            || !list_fits(self.n, self.entries.len())
-        {
+        if judge_ends(self.size(), from, to).is_err() || !list_fits(self.n, self.entries.len()) {
             return None;
         }
         self.first_cost_for(from, to)
@@ -176,7 +174,7 @@ impl<'a, C: Cost> Register for List<'a, C> {
         ensures size { self.new.n ≡ self.old.n }
         ensures lent { self.new.entries.ghost_name ≡ self.old.entries.ghost_name }
     {
-        judge_entry(nearest_size(self.n), from, to, cost)?;
+        judge_entry(self.size(), from, to, cost)?;
         if !list_fits(self.n, self.entries.len()) {
             return Err(RegisterFault::Sealed);
         }
@@ -195,7 +193,7 @@ impl<'a, C: Cost> Register for List<'a, C> {
         ensures size { self.new.n ≡ self.old.n }
         ensures lent { self.new.entries.ghost_name ≡ self.old.entries.ghost_name }
     {
-        judge_ends(nearest_size(self.n), from, to)?;
+        judge_ends(self.size(), from, to)?;
         if !list_fits(self.n, self.entries.len()) {
             return Err(RegisterFault::Sealed);
         }

@@ -64,9 +64,7 @@ impl<'a, C: Cost> Register for Matrix<'a, C> {
     }
 
     fn card(&self, from: Format, to: Format) -> Option<C> {
-        if judge_ends(nearest_size(self.n), from, to).is_err()
-            || !matrix_fits(self.n, self.places.len())
-        {
+        if judge_ends(self.size(), from, to).is_err() || !matrix_fits(self.n, self.places.len()) {
             return None;
         }
         self.cost_at(from * self.n + to)
@@ -80,7 +78,7 @@ impl<'a, C: Cost> Register for Matrix<'a, C> {
         ensures size { self.new.n ≡ self.old.n }
         ensures lent { self.new.places.ghost_name ≡ self.old.places.ghost_name }
     {
-        judge_entry(nearest_size(self.n), from, to, cost)?;
+        judge_entry(self.size(), from, to, cost)?;
         if !matrix_fits(self.n, self.places.len()) {
             return Err(RegisterFault::Sealed);
         }
@@ -97,7 +95,7 @@ impl<'a, C: Cost> Register for Matrix<'a, C> {
         ensures size { self.new.n ≡ self.old.n }
         ensures lent { self.new.places.ghost_name ≡ self.old.places.ghost_name }
     {
-        judge_ends(nearest_size(self.n), from, to)?;
+        judge_ends(self.size(), from, to)?;
         if !matrix_fits(self.n, self.places.len()) {
             return Err(RegisterFault::Sealed);
         }
