@@ -1,9 +1,9 @@
 -- A table that is loaded with cards, cell by cell, and what the stages make of it.
 -- The cell of s and t stands at s * n + t.
-use Rattle.std.proofs.Common.{◌≡◌, ℕ, ◌+◌, ◌*◌, ◌/◌, ◌%◌, ◌<◌, ◌≤◌, true, false, not, ◌&&◌, eqb, ltb, ◌⊎◌, List, length, get_or, set, IfSome, Some, None, Option, sym, refl, ap, ◌∙◌, subst, subst₂, inl, inr, arith}
+use Rattle.std.proofs.Common.{◌≡◌, ℕ, ◌+◌, ◌-◌, ◌*◌, ◌/◌, ◌%◌, ◌<◌, ◌≤◌, true, false, not, ◌&&◌, eqb, ltb, ◌⊎◌, List, ◌++◌, length, get_or, drop, set, IfSome, Some, None, Option, sym, refl, ap, ◌∙◌, subst, subst₂, inl, inr, arith}
 use mathlib.Core.Path.{fun_ext}
 use Rattle.std.specs.Option.{option_map}
-use Rattle.std.proofs.lemmas.List.{length-set, get_or-set_same, get_or-set_other}
+use Rattle.std.proofs.lemmas.List.{length-append, length-drop, get_or-append_right, get_or-drop, get_or-set_same, get_or-set_other}
 use Rattle.std.proofs.lemmas.Nat.{div-mul-add, mod-mul-add}
 use Rattle.std.proofs.lemmas.Bool.{ltb-true, lt-ltb, ne_eqb, and_parts, and_from, cases_Bool, cases_eq, cond-true, cond-false}
 use Rattle.costs.specs.Algebra.{Algebra}
@@ -13,14 +13,11 @@ use Rattle.walks.specs.Solved.{Beyond, Fresh}
 use Rattle.walks.specs.declared.cells.Cell.{Cell}
 use Rattle.walks.proofs.Passes.{place_lt}
 
-pub beyond_none : {C : Type 0} (k : ℕ) (cells : List (Cell C)) → Beyond k cells cells
-beyond_none k cells = record { long = refl; rest = λ j l. refl }
-
--- a write below k
-pub beyond_more : {C : Type 0} (k : ℕ) (first second : List (Cell C)) (i : ℕ) (c : Cell C) → i < k → Beyond k first second → Beyond k first (set second i c)
-beyond_more k first second i c l b = record {
-  long = length-set second i c ∙ b.long;
-  rest = λ j m. get_or-set_other second i j c empty (λ e. absurd (omega arith)) ∙ b.rest j m;
+-- the first k cells are set
+pub beyond_front : {C : Type 0} (k : ℕ) (cells front : List (Cell C)) → length front ≡ k → k ≤ length cells → Beyond k cells (front ++ drop k cells)
+beyond_front k cells front long room = record {
+  long = omega (arith, length-append front (drop k cells), length-drop k cells);
+  rest = λ j m. get_or-append_right front (drop k cells) k j empty long m ∙ get_or-drop k cells (j - k) empty ∙ ap (λ i. get_or cells i empty) (omega arith);
 }
 
 pub beyond_kept : {C : Type 0} (n : ℕ) (first second third : List (Cell C)) → Beyond (n * n) first second → Kept n second third → Beyond (n * n) first third

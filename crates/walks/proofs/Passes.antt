@@ -1,16 +1,16 @@
 -- Passes over a table of cells: what one write does, two passes after each other, and what a pass keeps.
 -- The cell of s and t stands at s * n + t.
-use Rattle.std.proofs.Common.{◌≡◌, ℕ, suc, ◌+◌, ◌*◌, ◌/◌, ◌%◌, ◌<◌, ◌≤◌, cond, not, ◌&&◌, eqb, ltb, ◌⊎◌, List, length, get_or, set, Some, None, Option, sym, refl, ap, ◌∙◌, subst, subst₂, inl, inr, arith}
+use Rattle.std.proofs.Common.{◌≡◌, ℕ, suc, ◌+◌, ◌*◌, ◌/◌, ◌%◌, ◌<◌, ◌≤◌, cond, not, ◌&&◌, eqb, ltb, ◌⊎◌, Bool, true, false, List, length, get_or, set, Some, None, Option, Decides, sym, refl, ap, ◌∙◌, subst, subst₂, inl, inr, arith}
 use mathlib.Core.Path.{subst₃, fun_ext}
 use Rattle.std.specs.Option.{option_map}
 use Rattle.std.proofs.lemmas.List.{length-set, get_or-set_same, get_or-set_other}
 use Rattle.std.proofs.lemmas.Nat.{mul-add-lt, div-mul-add, mod-mul-add}
-use Rattle.std.proofs.lemmas.Bool.{cases_eq, cases_lt}
+use Rattle.std.proofs.lemmas.Bool.{cases_eq, cases_lt, cases_Bool}
 use Rattle.costs.specs.Algebra.{Algebra, Lawful, reach}
 use Rattle.walks.specs.Walk.{LeastOf}
-use Rattle.walks.specs.Theorems.{Sound, Either, Joined}
+use Rattle.walks.specs.Theorems.{Sound, Either}
 use Rattle.walks.specs.Cells.{empty, cell, Kept, Laid, cards_in, least_in}
-use Rattle.walks.specs.Eliminated.{Block, Cross, Near, Ready, Improved}
+use Rattle.walks.specs.Eliminated.{Block, Cross, Joinable, UndercutUnit, Near, Ready, Improved}
 use Rattle.walks.specs.declared.cells.Cell.{Cell}
 use Rattle.walks.proofs.Least.{either_new, either_better, either_kept, joined_is}
 
@@ -198,11 +198,11 @@ module _ (A : Algebra) {C : Type 0} (value : C → A.Value) (n : ℕ) where
           column (inl g) = absurd (omega arith)
           column (inr g) = absurd (omega arith)
 
--- y is held for the combination of two near costs p and q: it is exact, so what is told by it is told by them
-module _ {A : Algebra} (L : Lawful A) (n : ℕ) (small : 2 * (n + 1) ≤ reach) (p q : Option A.Value) (np : Near A n p) (nq : Near A n q) (a b y : A.Value) (ep : p ≡ Some a) (eq : q ≡ Some b)
+-- y is held for the combination of the costs p and q: it is exact, so what is told by it is told by them
+module _ {A : Algebra} (L : Lawful A) (p q : Option A.Value) (joinable : Joinable A p q) (a b y : A.Value) (ep : p ≡ Some a) (eq : q ≡ Some b)
     (exact : (m k : ℕ) → m + k ≤ reach → A.Within m a → A.Within k b → y ≡ A.join a b) where
   joined : y ≡ A.join a b
-  joined = exact (suc n) (suc n) (omega arith) (np a ep) (nq b eq)
+  joined = let (m, k, few, near, near') = joinable a b ep eq in exact m k few near near'
 
   pub held_new : (o : Option A.Value) → o ≡ None → LeastOf A (Either A o p q) (Some y)
   held_new o eo = subst (λ x. LeastOf A (Either A o p q) (Some x)) (sym joined) (either_new L o p q a b eo ep eq)
@@ -214,11 +214,16 @@ module _ {A : Algebra} (L : Lawful A) (n : ℕ) (small : 2 * (n + 1) ≤ reach) 
   pub held_kept : (o : Option A.Value) (z : A.Value) → o ≡ Some z → (A.Under y z → ⊥) → LeastOf A (Either A o p q) (Some z)
   held_kept o z eo more = either_kept L o p q z a b eo ep eq (subst (λ x. A.Under x z → ⊥) joined more)
 
-  pub held_closes : (u : A.Value) → u ≡ A.unit → A.Under y u → (x : A.Value) × Joined A p q x × A.Under x A.unit
-  held_closes u eu less = (y, (a, b, ep, eq, joined), subst (A.Under y) eu less)
+  -- whether it undercuts the unit
+  pub held_decides : (u : A.Value) (r : Bool) → u ≡ A.unit → (r ≡ true → A.Under y u) → (r ≡ false → A.Under y u → ⊥) → Decides r (UndercutUnit A p q)
+  held_decides u r eu less more = (λ e. (y, (a, b, ep, eq, joined), subst (A.Under y) eu (less e)), λ h. elim (cases_Bool r) [ inl e ↦ e | inr e ↦ absurd (more e (back h)) ])
+    where
+      back : UndercutUnit A p q → A.Under y u
+      back (x, j, less) = subst₂ A.Under (sym (joined ∙ joined_is L p q a b x ep eq j)) (sym eu) less
 
-  pub held_open : (u : A.Value) → u ≡ A.unit → (A.Under y u → ⊥) → (x : A.Value) × Joined A p q x × A.Under x A.unit → ⊥
-  held_open u eu more (x, j, less) = more (subst₂ A.Under (sym (joined ∙ joined_is L p q a b x ep eq j)) (sym eu) less)
+-- costs that lie within one card more than there are formats can be combined
+pub near_joinable : (A : Algebra) (n : ℕ) (p q : Option A.Value) → 2 * (n + 1) ≤ reach → Near A n p → Near A n q → Joinable A p q
+near_joinable A n p q small np nq a b ep eq = (suc n, suc n, omega arith, np a ep, nq b eq)
 
 -- a cell that was read
 pub read_is : (A : Algebra) {C : Type 0} (value : C → A.Value) (n s t : ℕ) (cells : List (Cell C)) (x : Cell C) (o : Option C) → x ≡ cell n cells s t → x.least ≡ o → least_in A value n cells s t ≡ option_map value o

@@ -1,5 +1,6 @@
 -- Pricing a list of formats card by card: what one card more adds, and what is known at the end.
-use Rattle.std.proofs.Common.{◌≡◌, ℕ, zero, suc, ◌+◌, ◌-◌, ◌<◌, ◌≤◌, true, List, [], ◌∷◌, length, get_or, take, is_some, Some, Option, unwrap_or, sym, refl, ap, ◌∙◌, le_of_suc-le-suc, add-one, arith, take_all, below_more}
+use Rattle.std.proofs.Common.{◌≡◌, ℕ, zero, suc, ◌+◌, ◌-◌, ◌<◌, ◌≤◌, true, List, [], ◌∷◌, length, get_or, take, drop, is_some, Some, Option, unwrap_or, sym, refl, ap, ◌∙◌, le_of_suc-le-suc, add-one, arith, take_all, below_more}
+use Rattle.std.proofs.lemmas.List.{length-drop, get_or-take, get_or-drop, drop-drop}
 use Rattle.costs.specs.Algebra.{Algebra, Lawful, reach}
 use Rattle.walks.specs.Walk.{Walk, cost}
 use Rattle.walks.specs.Price.{card_at}
@@ -10,6 +11,16 @@ pub record SoFar (A : Algebra) (card : ℕ → ℕ → Option A.Value) (fs : Lis
   pub sum : x ≡ cost A card (take (suc k) fs)
   pub near : A.Within k x
   pub stand : (j : ℕ) → j < k → is_some (card_at A card fs j) ≡ true
+
+-- one turn of a loop over the pairs of neighbours, where the formats from i on are left
+pub pairs_turn : (fs pair left left' : List ℕ) (i size : ℕ) → size ≡ 2 → left ≡ drop i fs → (size ≤ length left) × (pair ≡ take size left) × (left' ≡ drop 1 left) × (length pair ≡ size) →
+    (i + 1 < length fs) × (get_or pair 0 0 ≡ get_or fs i 0) × (get_or pair 1 0 ≡ get_or fs (i + 1) 0) × (left' ≡ drop (i + 1) fs)
+pairs_turn fs pair left left' i size two is (enough, front, on, long) = (
+  omega (arith, ap length is, length-drop i fs),
+  ap (λ ps. get_or ps 0 0) front ∙ get_or-take size left 0 0 (omega arith) ∙ ap (λ ls. get_or ls 0 0) is ∙ get_or-drop i fs 0 0 ∙ ap (λ k. get_or fs k 0) (omega arith),
+  ap (λ ps. get_or ps 1 0) front ∙ get_or-take size left 1 0 (omega arith) ∙ ap (λ ls. get_or ls 1 0) is ∙ get_or-drop i fs 1 0,
+  on ∙ ap (drop 1) is ∙ drop-drop 1 i fs ∙ ap (λ k. drop k fs) (omega arith),
+)
 
 module _ {A : Algebra} (L : Lawful A) (card : ℕ → ℕ → Option A.Value) where
   one_more : (fs : List ℕ) (k : ℕ) (c : A.Value) → suc k < length fs → card (get_or fs k 0) (get_or fs (suc k) 0) ≡ Some c → cost A card (take (suc (suc k)) fs) ≡ A.join (cost A card (take (suc k) fs)) c

@@ -1,6 +1,7 @@
 -- The loop at a format h that a look found: a card leads out of h, and a chain of the least cost up to h leads back.
 -- The costs back are near, one of them undercuts the unit together with its card, and the chain makes a loop.
-use Rattle.std.proofs.Common.{◌≡◌, ℕ, suc, ◌-◌, ◌<◌, ◌≤◌, true, List, [], ◌∷◌, Some, None, Option, sym, refl, subst, arith, MatchOption}
+use Rattle.std.proofs.Common.{◌≡◌, ℕ, suc, ◌-◌, ◌<◌, ◌≤◌, true, List, [], ◌∷◌, IfSome, Some, None, Option, sym, refl, subst, arith, MatchOption}
+use Rattle.std.specs.Option.{option_map}
 use Rattle.costs.specs.Algebra.{Algebra, Lawful}
 use Rattle.registers.specs.Meaning.{Meaning, meant, standing, most_formats}
 use Rattle.walks.specs.Walk.{path, Below, cost, Chain, Loop, WalkCosts, Least, Gains, GainsAt}
@@ -18,10 +19,11 @@ use Rattle.walks.proofs.Sheets.{chain_leads_in}
 use Rattle.walks.proofs.Restrict.{upto_runs, runs_upto, upto_calm}
 
 -- an admitted cost is near
-pub card_near : {A : Algebra} → Lawful A → (n : ℕ) (o : Option A.Value) (a : A.Value) → n ≤ most_formats → o ≡ Some a → A.admits a ≡ true → Near A n o
-card_near {A} L n o a few e admitted x f =
-    let d : a ≡ x = cc in
-    subst (A.Within (suc n)) d (L.within_more 1 (suc n) a (omega arith) (omega arith) (L.admitted_within a admitted))
+pub card_near : {A : Algebra} → Lawful A → {C : Type 0} (value : C → A.Value) (n : ℕ) (c : Option C) → n ≤ most_formats → IfSome c (λ x. A.admits (value x) ≡ true) → Near A n (option_map value c)
+card_near {A} L value n None few admitted x e = cc
+card_near {A} L value n (Some y) few admitted x e =
+    let d : value y ≡ x = cc in
+    subst (A.Within (suc n)) d (L.within_more 1 (suc n) (value y) (omega arith) (omega arith) (L.admitted_within (value y) admitted))
 
 -- the table has the least costs over the cards up to h
 pub record Back (A : Algebra) {C : Type 0} (value : C → A.Value) (n : ℕ) (card : ℕ → ℕ → Option A.Value) (cells : List (Cell C)) (h : ℕ) : Type 0 where

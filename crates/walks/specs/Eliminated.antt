@@ -24,6 +24,14 @@ module _ (A : Algebra) where
   abbrev pub Near : ℕ → Option A.Value → Type 0
   Near n o = (x : A.Value) → o ≡ Some x → A.Within (suc n) x
 
+  -- the combination of the two costs, where both are there, is exact: they lie within few enough cards together
+  abbrev pub Joinable : Option A.Value → Option A.Value → Type 0
+  Joinable p q = (a b : A.Value) → p ≡ Some a → q ≡ Some b → (m : ℕ) × (k : ℕ) × (m + k ≤ reach) × A.Within m a × A.Within k b
+
+  -- both costs are there, and undercut the unit together
+  abbrev pub UndercutUnit : Option A.Value → Option A.Value → Type 0
+  UndercutUnit p q = (x : A.Value) × Joined A p q x × A.Under x A.unit
+
   -- no closed walk at a format below h, through lower ones, undercuts the unit
   abbrev pub Calmed : (ℕ → ℕ → Option A.Value) → ℕ → Type 0
   Calmed card h = (k : ℕ) → k < h → GainsAt A card k → ⊥
@@ -50,7 +58,7 @@ module _ (A : Algebra) {C : Type 0} (value : C → A.Value) (n : ℕ) where
 
   -- the costs from h to k and back are there, and undercut the unit together
   abbrev pub Closes : List (Cell C) → ℕ → ℕ → Type 0
-  Closes cells h k = (x : A.Value) × Joined A (least_in A value n cells h k) (least_in A value n cells k h) x × A.Under x A.unit
+  Closes cells h k = UndercutUnit A (least_in A value n cells h k) (least_in A value n cells k h)
 
   module _ (card : ℕ → ℕ → Option A.Value) (cells : List (Cell C)) where
     -- each cell has its least cost over inner formats below both of its own

@@ -4,9 +4,8 @@ use Rattle.std.specs.Prelude.{◌≡◌, ℕ, ◌≤◌, true, cond, ◌&&◌, L
 use Rattle.std.specs.Option.{option_map}
 use Rattle.costs.specs.Algebra.{Algebra}
 use Rattle.walks.specs.Walk.{path, cost, Loop, Least, Gains}
-use Rattle.walks.specs.Theorems.{Joined}
 use Rattle.walks.specs.Cells.{empty, cards_in, least_in, Laid, Each}
-use Rattle.walks.specs.Eliminated.{Looked}
+use Rattle.walks.specs.Eliminated.{Looked, UndercutUnit}
 use Rattle.walks.specs.Sheet.{row_of, put_row}
 use Rattle.walks.specs.declared.cells.Cell.{Cell}
 
@@ -47,4 +46,4 @@ module _ (A : Algebra) where
 
       -- the card from h to v and the least cost back undercut the unit together
       abbrev pub Turns : ℕ → ℕ → Type 0
-      Turns h v = (x : A.Value) × Joined A (card h v) (least_in A value n cells v h) x × A.Under x A.unit
+      Turns h v = UndercutUnit A (card h v) (least_in A value n cells v h)

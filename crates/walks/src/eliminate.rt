@@ -1,37 +1,38 @@
 // Three stages that bring a table of cells, each with its card's cost, to least costs.
-ghost use Rattle.std.specs.Prelude.{◌≡◌, ℕ, ◌+◌, ◌*◌, ◌<◌, ◌≤◌, true, false, ◌≢◌};
+ghost use Rattle.std.specs.Prelude.{◌≡◌, ℕ, ◌+◌, ◌*◌, ◌<◌, ◌≤◌, true, false, Decides, ◌≢◌};
 ghost use Rattle.std.specs.Option.{option_map};
-ghost use Rattle.costs.specs.Algebra.{reach};
 ghost use Rattle.walks.specs.Walk.{LeastOf};
 ghost use Rattle.walks.specs.Theorems.{Either};
 ghost use Rattle.walks.specs.Cells.{Laid, Kept, Each, cards_in};
-ghost use Rattle.walks.specs.Eliminated.{Block, Cross, Near, Calmed, Ready, Improved, Closes, FirstDone, SecondDone, ThirdDone, SweptTo, FirstFound};
+ghost use Rattle.walks.specs.Eliminated.{Block, Cross, Joinable, UndercutUnit, Calmed, Ready, Improved, Closes, FirstDone, SecondDone, ThirdDone, SweptTo, FirstFound};
 
 use crate::Cell;
 use crate::cells::cell_at;
 use costs::Cost;
 
 // The better of a held cost and the combination of two, where both are there.
-fn better<C: Cost>(n: usize, held: Option<C>, first: Option<C>, second: Option<C>) -> Option<C>
-    requires small { 2 * (n + 1) ≤ reach }
-    requires first { Near C.Cost.algebra n (option_map C.Cost.value first) }
-    requires second { Near C.Cost.algebra n (option_map C.Cost.value second) }
+fn better<C: Cost>(held: Option<C>, first: Option<C>, second: Option<C>) -> Option<C>
+    requires { Joinable C.Cost.algebra (option_map C.Cost.value first) (option_map C.Cost.value second) }
     ensures { LeastOf C.Cost.algebra (Either C.Cost.algebra (option_map C.Cost.value held) (option_map C.Cost.value first) (option_map C.Cost.value second)) (option_map C.Cost.value result) }
 {
-    let Some(one) = first else {
-        return held;
-    };
-    let Some(two) = second else {
+    let (Some(one), Some(two)) = (first, second) else {
         return held;
     };
     let sum = one.join(two);
-    let Some(cost) = held else {
-        return Some(sum);
-    };
-    if sum.undercuts(cost) {
-        Some(sum)
-    } else {
-        Some(cost)
+    match held {
+        Some(cost) if !sum.undercuts(cost) => Some(cost),
+        _ => Some(sum),
+    }
+}
+
+// Whether the cost there and the cost back are both there, and undercut the unit together.
+pub(crate) fn undercut_unit<C: Cost>(there: Option<C>, back: Option<C>) -> bool
+    requires { Joinable C.Cost.algebra (option_map C.Cost.value there) (option_map C.Cost.value back) }
+    ensures { Decides result (UndercutUnit C.Cost.algebra (option_map C.Cost.value there) (option_map C.Cost.value back)) }
+{
+    match (there, back) {
+        (Some(there), Some(back)) => there.join(back).undercuts(C::unit()),
+        _ => false,
     }
 }
 
@@ -48,7 +49,7 @@ fn improve<C: Cost>(cells: &mut [Cell<C>], n: usize, s: usize, pivot: usize, t: 
     let second = cell_at(cells, n, pivot, t).least;
     cells[s * n + t] = Cell {
         card,
-        least: better(n, least, first, second),
+        least: better(least, first, second),
     };
 }
 
@@ -96,23 +97,22 @@ fn turn<C: Cost>(cells: &mut [Cell<C>], n: usize, t: usize, pivot: usize)
     }
 }
 
+// Whether the costs from `h` to `k` and back undercut the unit.
+fn closes<C: Cost>(cells: &[Cell<C>], n: usize, h: usize, k: usize) -> bool
+    requires ready { Ready C.Cost.algebra C.Cost.value n h cells.now }
+    requires lower { k < h }
+    ensures { Decides result (Closes C.Cost.algebra C.Cost.value n cells.now h k) }
+{
+    undercut_unit(cell_at(cells, n, h, k).least, cell_at(cells, n, k, h).least)
+}
+
 // Whether the costs from `h` to some lower format and back undercut the unit.
 fn looks<C: Cost>(cells: &[Cell<C>], n: usize, h: usize) -> bool
     requires ready { Ready C.Cost.algebra C.Cost.value n h cells.now }
     ensures yes { result ≡ true → (k : ℕ) × (k < h) × Closes C.Cost.algebra C.Cost.value n cells.now h k }
     ensures no { result ≡ false → (k : ℕ) → k < h → Closes C.Cost.algebra C.Cost.value n cells.now h k → ⊥ }
 {
-    let unit = C::unit();
-    for k in 0..h {
-        if let Some(there) = cell_at(cells, n, h, k).least {
-            if let Some(back) = cell_at(cells, n, k, h).least {
-                if there.join(back).undercuts(unit) {
-                    return true;
-                }
-            }
-        }
-    }
-    false
+    (0..h).any(|k| closes(cells, n, h, k))
 }
 
 // The first stage: the first format at which a closed walk through lower ones undercuts the unit, or every cell's least cost

@@ -30,10 +30,10 @@ pub fn price<R: Register>(register: &R, formats: &[Format]) -> Result<R::Cost, U
         return Err(Unpriced::Long);
     }
     let mut total = R::Cost::unit();
-    for place in 0..formats.len() - 1 {
-        let Some(cost) = register.card(formats[place], formats[place + 1]) else {
-            return Err(Unpriced::NoCard(place));
-        };
+    for (place, pair) in formats.windows(2).enumerate() {
+        let cost = register
+            .card(pair[0], pair[1])
+            .ok_or(Unpriced::NoCard(place))?;
         total = total.join(cost);
     }
     Ok(total)

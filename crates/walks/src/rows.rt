@@ -6,11 +6,11 @@ ghost use Rattle.walks.specs.Tracing.{Follows};
 
 use registers::MOST_FORMATS;
 
-// The bytes of a row.
-pub const ROW: usize = 66;
+// A row has room for so many formats: a loop over all formats repeats its first.
+const MOST_IN_ROW: usize = MOST_FORMATS + 1;
 
-// A row has room for so many formats.
-const MOST_IN_ROW: usize = 65;
+// The bytes of a row: the number of its formats stands first.
+pub const ROW: usize = 1 + MOST_IN_ROW;
 
 // What stands behind the formats of a row.
 const NO_FORMAT: u8 = 255;
@@ -36,17 +36,7 @@ fn follow(
         }
         here = next[here];
     }
-    most
-}
-
-// Writes `NO_FORMAT` at so many places from `at` on.
-fn fill(sheet: &mut [u8], at: usize, count: usize)
-    requires { at + count ≤ length sheet.old }
-    ensures { sheet.new ≡ paste sheet.old at (replicate count 255) count }
-{
-    for i in 0..count {
-        sheet[at + i] = NO_FORMAT;
-    }
+    unreachable!()
 }
 
 // Writes the number of formats at `at`, and what stands behind so many formats.
@@ -55,7 +45,7 @@ fn frame(sheet: &mut [u8], at: usize, count: usize)
     requires few { count ≤ 65 }
     ensures { sheet.new ≡ slice_set (paste sheet.old (at + 1 + count) (replicate (65 - count) 255) (65 - count)) at count }
 {
-    fill(sheet, at + 1 + count, MOST_IN_ROW - count);
+    sheet[at + 1 + count..at + ROW].fill(NO_FORMAT);
     sheet[at] = count as u8;
 }
 

@@ -1,5 +1,5 @@
 // The search of a register's cards: their least costs in a table of cells, or a loop that undercuts the unit.
-ghost use Rattle.std.specs.Prelude.{◌≡◌, ℕ, ◌*◌, ◌/◌, ◌%◌, ◌<◌, ◌≤◌, true, length, IfSome, Some, slice_index_or};
+ghost use Rattle.std.specs.Prelude.{◌≡◌, ℕ, ◌*◌, ◌/◌, ◌%◌, ◌<◌, ◌≤◌, true, length, Decides, IfSome, Some, slice_index_or};
 ghost use Rattle.std.specs.Option.{option_map};
 ghost use Rattle.registers.specs.Meaning.{meant, standing};
 ghost use Rattle.walks.specs.Cells.{empty, Laid, Kept, Each, cards_in, least_in};
@@ -9,7 +9,7 @@ ghost use Rattle.walks.specs.Tracing.{Clear};
 ghost use Rattle.walks.specs.Solved.{upto, Beyond, Fresh, Solved, Turns, LoopWritten};
 
 use crate::cells::{Cell, cell_at};
-use crate::eliminate::{first_stage, second_stage, third_stage};
+use crate::eliminate::{first_stage, second_stage, third_stage, undercut_unit};
 use crate::rows::write_round;
 use crate::trail::trace;
 use costs::Cost;
@@ -34,9 +34,10 @@ fn load<R: Register>(register: &R, cells: &mut [Cell<R::Cost>], n: usize, high: 
     ensures beyond { Beyond (n * n) cells.old cells.new }
     ensures loaded { (k : ℕ) → k < n * n → Fresh R.Cost.Cost.algebra R.Cost.Cost.value (upto high (standing (meant R.Cost.Cost.value (R.Register.holds register.now))) (k / n) (k % n)) (slice_index_or cells.new k empty) }
 {
-    for k in 0..n * n {
+    let table = &mut cells[..n * n];
+    for (k, cell) in table.iter_mut().enumerate() {
         let card = card_upto(register, high, k / n, k % n);
-        cells[k] = Cell { card, least: card };
+        *cell = Cell { card, least: card };
     }
 }
 
@@ -86,7 +87,18 @@ pub fn solve<R: Register>(register: &R, cells: &mut [Cell<R::Cost>]) -> Option<u
     solve_upto(register, cells, n, n)
 }
 
-// A format below `h` such that the card from `h` to it and the least cost back undercut the unit together, where there is one.
+// Whether the card from `h` to `v` and the least cost back undercut the unit together.
+fn turns<R: Register>(register: &R, cells: &[Cell<R::Cost>], n: usize, h: usize, v: usize) -> bool
+    requires room { n * n ≤ length cells.now }
+    requires few { n ≤ 64 }
+    requires inside { (h < n) × (v < h) }
+    requires near { Near R.Cost.Cost.algebra n (least_in R.Cost.Cost.algebra R.Cost.Cost.value n cells.now v h) }
+    ensures { Decides result (Turns R.Cost.Cost.algebra R.Cost.Cost.value n (standing (meant R.Cost.Cost.value (R.Register.holds register.now))) cells.now h v) }
+{
+    undercut_unit(register.card(h, v), cell_at(cells, n, v, h).least)
+}
+
+// A format below `h` such that the card from `h` to it and the least cost back undercut the unit together.
 fn way_out<R: Register>(register: &R, cells: &[Cell<R::Cost>], n: usize, h: usize) -> usize
     requires room { n * n ≤ length cells.now }
     requires few { n ≤ 64 }
@@ -95,17 +107,7 @@ fn way_out<R: Register>(register: &R, cells: &[Cell<R::Cost>], n: usize, h: usiz
     requires some { (v : ℕ) × (v < h) × Turns R.Cost.Cost.algebra R.Cost.Cost.value n (standing (meant R.Cost.Cost.value (R.Register.holds register.now))) cells.now h v }
     ensures { (result < h) × Turns R.Cost.Cost.algebra R.Cost.Cost.value n (standing (meant R.Cost.Cost.value (R.Register.holds register.now))) cells.now h result }
 {
-    let unit = R::Cost::unit();
-    for v in 0..h {
-        if let Some(there) = register.card(h, v) {
-            if let Some(back) = cell_at(cells, n, v, h).least {
-                if there.join(back).undercuts(unit) {
-                    return v;
-                }
-            }
-        }
-    }
-    h
+    (0..h).find(|v| turns(register, cells, n, h, *v)).unwrap()
 }
 
 // Writes into row 0 of the sheet a loop at `h` that undercuts the unit, where `h` is what `solve` answered. No card leads out

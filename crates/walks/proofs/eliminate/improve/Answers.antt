@@ -1,14 +1,13 @@
 -- What is read is near, and the write is a pass over one cell.
-use Rattle.std.proofs.Common.{◌+◌, ◌*◌, ◌<◌, length, refl, ◌∙◌, arith, rules}
-use Rattle.walks.proofs.Passes.{place_lt, improved_read, read_is}
+use Rattle.std.proofs.Common.{◌+◌, ◌*◌, ◌<◌, length, arith, rules}
+use Rattle.walks.proofs.Passes.{place_lt, improved_read, near_joinable}
 use Rattle.walks.proofs.eliminate.improve.Goals as goal
 
 pub better-requires : goal.better-requires
-better-requires g c = record {
-  small = c.requires.ready.small;
-  first = λ x e. (c.requires.ready.near c.args.s c.requires.row.0 c.requires.row.1).0 x (read_is g.C.Cost.algebra g.C.Cost.value c.args.n c.args.s c.args.pivot c.args.cells.now c.cell_at-first.result _ c.cell_at-first.ensures refl ∙ e);
-  second = λ x e. (c.requires.ready.near c.args.t c.requires.column.0 c.requires.column.1).1 x (read_is g.C.Cost.algebra g.C.Cost.value c.args.n c.args.pivot c.args.t c.args.cells.now c.cell_at-second.result _ c.cell_at-second.ensures refl ∙ e);
-}
+better-requires g c =
+    let near = c.requires.ready.near in
+    rw (c.cell_at-first.ensures, c.cell_at-second.ensures) (near_joinable g.C.Cost.algebra c.args.n _ _ c.requires.ready.small
+    (near c.args.s c.requires.row.0 c.requires.row.1).0 (near c.args.t c.requires.column.0 c.requires.column.1).1)
 
 pub offset_bounds-cells-s : goal.offset_bounds-cells-s
 offset_bounds-cells-s g c =
