@@ -1,6 +1,6 @@
 -- Least-cost chains that are read from a table of next formats, and the tree of tight cards that the table is made of.
 -- `ticked` says who is in the tree, by format, and `next` the next format of each one that is.
-use Rattle.std.specs.Prelude.{◌≡◌, ℕ, ◌<◌, ◌≤◌, Bool, true, false, cond, List, [], ◌∷◌, length, get_or, take, Some, None, Option, MatchOption, ◌==◌, ◌≢◌, nat_lt, slice_index, slice_index_or}
+use Rattle.std.specs.Prelude.{◌≡◌, ℕ, ◌<◌, ◌≤◌, Bool, true, false, cond, List, [], ◌∷◌, length, get_or, Some, None, Option, MatchOption, ◌==◌, ◌≢◌, nat_lt, slice_index, slice_index_or}
 use Rattle.costs.specs.Algebra.{Algebra}
 use Rattle.registers.specs.Meaning.{most_formats}
 use Rattle.walks.specs.Walk.{path, Below, Distinct, Walk, cost, Chain, WalkCosts, Least, Gains, Tight}
@@ -35,19 +35,23 @@ pub record Led (A : Algebra) (card : ℕ → ℕ → Option A.Value) (d : ℕ �
 abbrev pub Grown : (A : Algebra) → (ℕ → ℕ → Option A.Value) → (ℕ → Option A.Value) → ℕ → List Bool → List ℕ → Type 0
 Grown A card d t ticked next = (v : ℕ) → slice_index_or ticked v false ≡ true → Led A card d t ticked next v
 
--- the first `count` formats of the queue are those in the tree, each once
-pub record Lined (n : ℕ) (ticked : List Bool) (queue : List ℕ) (count : ℕ) : Type 0 where
-  pub short : count ≤ n
-  pub below : Below n (take count queue)
-  pub distinct : Distinct (take count queue)
-  pub inside : Ticked ticked (take count queue)
-  pub all : (v : ℕ) → slice_index_or ticked v false ≡ true → (k : ℕ) × (k < count) × (slice_index queue k ≡ v)
+-- a queue: the formats that joined it, in their order, and how many of them were taken out of it
+pub record Line : Type 0 where
+  pub joined : List ℕ
+  pub taken : ℕ
+
+-- the formats that joined the queue are those in the tree, each once
+pub record Lined (n : ℕ) (ticked : List Bool) (joined : List ℕ) : Type 0 where
+  pub below : Below n joined
+  pub distinct : Distinct joined
+  pub inside : Ticked ticked joined
+  pub all : (v : ℕ) → slice_index_or ticked v false ≡ true → (k : ℕ) × (k < length joined) × (slice_index joined k ≡ v)
 
 -- who was in the tree still is, and the queue only has more at its end
-pub record Wider (before after : List Bool) (count more : ℕ) (queue longer : List ℕ) : Type 0 where
-  pub rises : count ≤ more
+pub record Wider (before after : List Bool) (joined longer : List ℕ) : Type 0 where
+  pub rises : length joined ≤ length longer
   pub ticks : (v : ℕ) → slice_index_or before v false ≡ true → slice_index_or after v false ≡ true
-  pub front : (k : ℕ) → k < count → slice_index longer k ≡ slice_index queue k
+  pub front : (k : ℕ) → k < length joined → slice_index longer k ≡ slice_index joined k
 
 module _ (A : Algebra) {C : Type 0} (value : C → A.Value) (n : ℕ) (cells : List (Cell C)) (goal : ℕ) where
   -- the least cost from v to the goal, the unit at the goal itself
@@ -71,13 +75,12 @@ module _ (A : Algebra) {C : Type 0} (value : C → A.Value) (n : ℕ) (cells : L
   Scanned ticked w k = (v : ℕ) → v < k → TightIn v w → slice_index_or ticked v false ≡ true
 
   -- the tree with its queue, while it grows
-  pub record Growing (ticked : List Bool) (next queue : List ℕ) (count : ℕ) : Type 0 where
+  pub record Growing (ticked : List Bool) (next joined : List ℕ) : Type 0 where
     pub grown : Grown A (cards_in A value n cells) to_goal goal ticked next
     pub rooted : get_or ticked goal false ≡ true
-    pub lined : Lined n ticked queue count
+    pub lined : Lined n ticked joined
     pub long_ticked : length ticked ≡ most_formats
     pub long_next : length next ≡ most_formats
-    pub long_queue : length queue ≡ most_formats
 
   -- the tree is grown: no tight card leads into it from outside
   pub record Full (ticked : List Bool) (next : List ℕ) : Type 0 where

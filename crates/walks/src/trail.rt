@@ -1,5 +1,5 @@
 // Chains of least cost to a goal, read from a table of least costs.
-ghost use Rattle.std.specs.Prelude.{◌≡◌, ℕ, ◌<◌, ◌≤◌, true, false, length, Decides, ◌≢◌, slice_index_or, slice_set};
+ghost use Rattle.std.specs.Prelude.{◌≡◌, ℕ, ◌+◌, ◌<◌, ◌≤◌, true, false, [], ◌∷◌, ◌++◌, length, MatchOption, Decides, ◌≢◌, slice_index, slice_index_or, slice_set};
 ghost use Rattle.std.specs.Option.{option_map};
 ghost use Rattle.walks.specs.Cells.{Laid, cards_in, least_in};
 ghost use Rattle.walks.specs.Walk.{Gains, Least};
@@ -8,6 +8,7 @@ ghost use Rattle.walks.specs.Tracing.{Clear, Full, Growing, Ready, Scanned, Tigh
 use crate::cells::{Cell, cell_at};
 use costs::Cost;
 use registers::MOST_FORMATS;
+use std::marker::Model;
 
 // A tick for each format. All ticks are gone when it ends.
 struct Ticks<'a> {
@@ -27,16 +28,10 @@ impl Ticks<'_> {
         requires { format < 64 }
         ensures { result ≡ slice_index_or self.now.sheet.now format false }
     {
-        ticked(self.sheet, format)
+        // The checker covers no read of an element behind a `&mut` that lies behind a `&`.
+        let sheet = &*self.sheet;
+        sheet[format]
     }
-}
-
-// Whether the format has a tick on the sheet.
-fn ticked(sheet: &[bool; MOST_FORMATS], format: usize) -> bool
-    requires { format < 64 }
-    ensures { result ≡ slice_index_or sheet.now format false }
-{
-    sheet[format]
 }
 
 impl Drop for Ticks<'_> {
@@ -45,6 +40,55 @@ impl Drop for Ticks<'_> {
     {
         *self.sheet = [false; MOST_FORMATS];
         let Ticks { sheet: _ } = self;
+    }
+}
+
+// The formats that joined the tree, in their order. Those from `taken` on still wait to be scanned.
+#[derive(Drop)]
+struct Queue {
+    formats: [usize; MOST_FORMATS],
+    joined: usize,
+    taken: usize,
+}
+
+impl Model for Queue {
+    ghost use Rattle.std.specs.Prelude.{◌≤◌, take};
+    ghost use Rattle.walks.specs.Tracing.{Line};
+
+    ghost Value = { Line };
+
+    ghost view = { λ q. record { joined = take q.joined q.formats; taken = q.taken } };
+
+    ghost invariant = { λ q. (q.taken ≤ q.joined) × (q.joined ≤ 64) };
+}
+
+impl Queue {
+    // The goal alone waits.
+    fn new(goal: usize) -> Queue
+        ensures { result ≡ record { joined = goal ∷ []; taken = 0 } }
+    {
+        Queue {
+            formats: [goal; MOST_FORMATS],
+            joined: 1,
+            taken: 0,
+        }
+    }
+
+    fn push(&mut self, format: usize)
+        requires { length self.old.joined < 64 }
+        ensures { self.new ≡ record { joined = self.old.joined ++ format ∷ []; taken = self.old.taken } }
+    {
+        self.formats[self.joined] = format;
+        self.joined += 1;
+    }
+
+    // The next format that waits.
+    fn pop(&mut self) -> Option<usize>
+        ensures { MatchOption result ((length self.old.joined ≤ self.old.taken) × (self.new ≡ self.old)) (λ f. (self.old.taken < length self.old.joined) × (f ≡ slice_index self.old.joined self.old.taken) × (self.new ≡ record { joined = self.old.joined; taken = self.old.taken + 1 })) }
+    {
+        let format = *self.formats[..self.joined].get(self.taken)?;
+        self.taken += 1;
+        Some(format)
     }
 }
 
@@ -57,8 +101,7 @@ fn rest<C: Cost>(cells: &[Cell<C>], n: usize, goal: usize, from: usize) -> Optio
     if from == goal {
         Some(C::unit())
     } else {
-        let cell = cell_at(cells, n, from, goal);
-        cell.least
+        cell_at(cells, n, from, goal).least
     }
 }
 
@@ -92,7 +135,7 @@ fn tight<C: Cost>(cells: &[Cell<C>], n: usize, goal: usize, from: usize, to: usi
     same(card.join(onward), whole)
 }
 
-// Each format with a tight card to `to`, which is in the tree, joins the tree and the queue. Answers how many are in the queue.
+// Each format with a tight card to `to`, which is in the tree, joins the tree and the queue.
 fn scan<C: Cost>(
     cells: &[Cell<C>],
     n: usize,
@@ -100,14 +143,14 @@ fn scan<C: Cost>(
     to: usize,
     ticks: &mut Ticks,
     next: &mut [usize; MOST_FORMATS],
-    queue: &mut [usize; MOST_FORMATS],
-    mut count: usize,
-) -> usize
+    queue: &mut Queue,
+)
     requires ready { Ready C.Cost.algebra C.Cost.value n cells.now goal }
     requires inside { (to < n) × (slice_index_or ticks.old.sheet.now to false ≡ true) }
-    requires growing { Growing C.Cost.algebra C.Cost.value n cells.now goal ticks.old.sheet.now next.old queue.old count }
-    ensures growing { Growing C.Cost.algebra C.Cost.value n cells.now goal ticks.new.sheet.now next.new queue.new result }
-    ensures wider { Wider ticks.old.sheet.now ticks.new.sheet.now count result queue.old queue.new }
+    requires growing { Growing C.Cost.algebra C.Cost.value n cells.now goal ticks.old.sheet.now next.old queue.old.joined }
+    ensures growing { Growing C.Cost.algebra C.Cost.value n cells.now goal ticks.new.sheet.now next.new queue.new.joined }
+    ensures wider { Wider ticks.old.sheet.now ticks.new.sheet.now queue.old.joined queue.new.joined }
+    ensures taken { queue.new.taken ≡ queue.old.taken }
     ensures scanned { Scanned C.Cost.algebra C.Cost.value n cells.now goal ticks.new.sheet.now to n }
     ensures same { ticks.new.sheet.ghost_name ≡ ticks.old.sheet.ghost_name }
 {
@@ -115,11 +158,9 @@ fn scan<C: Cost>(
         if !ticks.has(from) && tight(cells, n, goal, from, to) {
             ticks.tick(from);
             next[from] = to;
-            queue[count] = from;
-            count += 1;
+            queue.push(from);
         }
     }
-    count
 }
 
 // Grows the tree of tight cards backwards from the goal, breadth first: each format that joins is scanned once.
@@ -137,13 +178,9 @@ fn grow<C: Cost>(
     ensures same { ticks.new.sheet.ghost_name ≡ ticks.old.sheet.ghost_name }
 {
     ticks.tick(goal);
-    let mut queue = [goal; MOST_FORMATS];
-    let mut count = 1;
-    let mut at = 0;
-    while at < count {
-        let to = queue[at];
-        count = scan(cells, n, goal, to, ticks, next, &mut queue, count);
-        at += 1;
+    let mut queue = Queue::new(goal);
+    while let Some(to) = queue.pop() {
+        scan(cells, n, goal, to, ticks, next, &mut queue);
     }
 }
 

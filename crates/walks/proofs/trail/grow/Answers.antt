@@ -1,36 +1,48 @@
-use Rattle.std.proofs.Common.{replicate, sym, refl, ◌∙◌, subst, arith}
-use Rattle.walks.specs.Tracing.{Growing}
-use Rattle.walks.proofs.Growth.{growing_start, growing_at, queue_more, growing_full}
+-- Each format that is taken out of the queue is scanned, and the tree is grown when all of them are.
+use Rattle.std.proofs.Common.{◌≡◌, ◌+◌, refl, ap, ◌∙◌, arith}
+use Rattle.walks.proofs.Growth.{growing_start, growing_few, growing_at, queue_more, growing_full}
 use Rattle.walks.proofs.trail.grow.Goals as goal
 
-pub loop-at-init : goal.loop-at-init
-loop-at-init g c = (
-  subst (λ ts. Growing g.C.Cost.algebra g.C.Cost.value c.args.n c.args.cells.now c.args.goal ts c.args.next.now (replicate 64 c.args.goal) 1)
-      (sym c.tick.ensures.ticked)
-      (growing_start g.met.C.Cost.lawful g.C.Cost.value c.args.n c.args.cells.now c.args.goal c.requires.ready _ _ c.requires.long c.told-next c.requires.clear),
-  omega arith,
-  λ k l. absurd (omega arith),
-  refl,
-)
+pub loop-to-init : goal.loop-to-init
+loop-to-init g c =
+    let start = growing_start g.met.C.Cost.lawful g.C.Cost.value _ _ _ c.requires.ready _ _ c.requires.long c.told-next c.requires.clear in
+    rw (c.new-queue.ensures, c.tick.ensures.ticked) (start, omega arith, λ k l. absurd (omega arith), refl)
 
-pub scan-count-requires : goal.scan-count-requires
-scan-count-requires g c = record {
-  ready = c.requires.ready;
-  inside = growing_at g.met.C.Cost.lawful g.C.Cost.value _ _ _ c.requires.ready _ _ _ _ c.loop-at.invariant.0 c.loop-at.at c.loop-at-test.true;
-  growing = c.loop-at.invariant.0;
-}
+pub scan-requires : goal.scan-requires
+scan-requires g c =
+    let (growing, few, done, same) = c.loop-to.invariant in
+    let (waits, to, on) = c.in-Some.ensures in
+    record {
+      ready = c.requires.ready;
+      inside = rw to (growing_at g.met.C.Cost.lawful g.C.Cost.value _ _ _ c.requires.ready _ _ _ growing _ waits);
+      growing = rw on growing;
+    }
 
-pub loop-at-preserved : goal.loop-at-preserved
-loop-at-preserved g c =
-    let e = c.scan-count.ensures in (
+pub loop-to-preserved : goal.loop-to-preserved
+loop-to-preserved g c =
+    let (growing, few, done, same) = c.loop-to.invariant in
+    let (waits, to, on) = c.in-Some.ensures in
+    let e = c.scan.ensures in
+    let wider = rw on at e.wider in
+    let taken : c.scan.new.queue.taken ≡ c.loop-to.queue.taken + 1 = e.taken ∙ ap (λ q. q.taken) on in (
       e.growing,
-      omega (arith, e.wider.rises),
-      queue_more g.met.C.Cost.lawful g.C.Cost.value _ _ _ c.requires.ready _ _ _ _ _ _ c.loop-at.at c.loop-at-test.true e.wider c.loop-at.invariant.2 e.scanned,
-      e.same ∙ c.loop-at.invariant.3,
+      omega (arith, wider.rises),
+      rw taken (queue_more g.met.C.Cost.lawful g.C.Cost.value _ _ _ c.requires.ready _ _ _ _ _ waits wider done (rw to at e.scanned)),
+      e.same ∙ same,
     )
 
+pub loop-to-smaller : goal.loop-to-smaller
+loop-to-smaller g c =
+    let (waits, to, on) = c.in-Some.ensures in
+    let few = growing_few g.met.C.Cost.lawful g.C.Cost.value _ _ _ c.requires.ready _ _ _ c.loop-to.invariant.0 in
+    let taken : c.scan.new.queue.taken ≡ c.loop-to.queue.taken + 1 = c.scan.ensures.taken ∙ ap (λ q. q.taken) on in
+    omega arith
+
 pub returns : goal.returns
-returns g c = record {
-  full = growing_full g.met.C.Cost.lawful g.C.Cost.value _ _ _ c.requires.ready _ _ _ _ c.loop-at.invariant.0 (λ k l. c.loop-at.invariant.2 k (omega arith));
-  same = c.loop-at.invariant.3 ∙ c.tick.ensures.same;
-}
+returns g c =
+    let (growing, few, done, same) = c.loop-to.invariant in
+    let end = c.in_default.ensures.0 in
+    record {
+      full = growing_full g.met.C.Cost.lawful g.C.Cost.value _ _ _ c.requires.ready _ _ _ growing (λ k l. done k (omega arith));
+      same = same ∙ c.tick.ensures.same;
+    }

@@ -5,6 +5,5 @@ use Rattle.walks.proofs.trail.scan.Given as goal
 abbrev pub invariant-loop-from : goal.invariant-loop-from
 invariant-loop-from g l =
     let kind = g.C.Cost in
-    (Turn kind.algebra kind.value l.n l.cells l.goal l.initial.ticks.sheet.now l.initial.count l.initial.queue l.to l.from
-    l.ticks.sheet.now l.next l.queue l.count) ×
-    (l.ticks.sheet.ghost_name ≡ l.initial.ticks.sheet.ghost_name)
+    (Turn kind.algebra kind.value l.n l.cells l.goal l.initial.ticks.sheet.now l.initial.queue.joined l.to l.from l.ticks.sheet.now l.next l.queue.joined) ×
+    (l.queue.taken ≡ l.initial.queue.taken) × (l.ticks.sheet.ghost_name ≡ l.initial.ticks.sheet.ghost_name)
