@@ -10,9 +10,8 @@ use Rattle.walks.proofs.Cut.{distinct_few}
 use Rattle.walks.proofs.Loops.{runs_inside}
 use Rattle.walks.proofs.Runs.{to_runs}
 use Rattle.walks.proofs.Sheets.{get_or_put_row_above, length_put_row, length_row_of, row_at_put_row}
-use Rattle.walks.specs.Cells.{cards_in, empty, Each, Laid}
+use Rattle.walks.specs.Cells.{cards_in, Each, Laid}
 use Rattle.walks.specs.Sheet.{row_at, row_of}
-use Rattle.walks.specs.Solved as solved
 use Rattle.walks.specs.Solved.{LoopWritten, Settled}
 use Rattle.walks.specs.Theorems.{Sound}
 use Rattle.walks.specs.Walk.{path, Gains, Least, Loop}
@@ -55,13 +54,6 @@ beyond_any d k before now long rest = record {
       (λ le. get_or_past now j e (omega arith) ∙ sym (get_or_past before j e le))
       (cases_lt j (length before));
 }
-
--- the table's clause of the search, twice in a row
-pub table_beyond : {C : Type 0} (k : ℕ) (first second third : List (Cell C)) → solved.Beyond k first second → solved.Beyond k second third → Beyond k first third
-table_beyond k first second third a b = beyond_any empty k first third (b.long ∙ a.long) (λ j h. b.rest j h ∙ a.rest j h)
-
-pub table_once : {C : Type 0} (k : ℕ) (first second : List (Cell C)) → solved.Beyond k first second → Beyond k first second
-table_once k first second a = beyond_any empty k first second a.long a.rest
 
 module _ {A : Algebra} (L : Lawful A) (card : ℕ → ℕ → Option A.Value) (n : ℕ) (sound : Sound A n card) (few : n ≤ 64) where
   -- a loop has at most 65 formats

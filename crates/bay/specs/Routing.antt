@@ -1,11 +1,12 @@
 -- What a route call answers, and what it leaves in the legs, the table and the sheets.
-use Rattle.std.specs.Prelude.{◌≡◌, ℕ, ◌*◌, ◌<◌, ◌≤◌, ◌⊎◌, List, length, Some, None, Ok, Option, Result, slice_index_or}
+use Rattle.std.specs.Prelude.{◌≡◌, ℕ, ◌*◌, ◌<◌, ◌⊎◌, List, length, Some, None, Ok, Option, Result, slice_index_or}
 use Rattle.costs.specs.Algebra.{Algebra}
 use Rattle.registers.specs.Fault.{code, first_cause}
 use Rattle.registers.specs.Meaning.{standing}
 use Rattle.registers.specs.declared.fault.Code.{Code}
 use Rattle.registers.specs.declared.fault.Layer.TheVariants.{Bay}
 use Rattle.walks.specs.Sheet.{row_at}
+pub use Rattle.walks.specs.Cells.{Beyond}
 use Rattle.walks.specs.Walk.{Gains}
 use Rattle.walks.specs.declared.cells.Cell.{Cell}
 use Rattle.bay.specs.Faults.{refused}
@@ -22,11 +23,6 @@ pub record Desk (C : Type 0) : Type 0 where
   pub table : List (Cell C)
   pub costs : List C
   pub chains : List ℕ
-
--- places from n on are as they were, and so is the length
-pub record Beyond {X : Type 0} (n : ℕ) (before after : List X) : Type 0 where
-  pub long : length after ≡ length before
-  pub same : (k : ℕ) (d : X) → n ≤ k → slice_index_or after k d ≡ slice_index_or before k d
 
 module _ (A : Algebra) {C : Type 0} (value : C → A.Value) (p : Plain A.Value) (before after : Desk C) (answer : Result ℕ BayFault) where
   -- the first cause that holds before a card is looked at

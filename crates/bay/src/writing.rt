@@ -1,6 +1,6 @@
 // The rows, costs and notes of all legs, from a table of least costs.
 ghost use Rattle.std.specs.Prelude.{◌≡◌, ℕ, ◌*◌, ◌<◌, ◌≤◌, false, map, length, get_or, ◌≢◌, slice_index_or};
-ghost use Rattle.walks.specs.Cells.{Each, Laid, cards_in, cell, least_in};
+ghost use Rattle.walks.specs.Cells.{Each, Laid, cards_in, least_in};
 ghost use Rattle.walks.specs.Sheet.{row_at};
 ghost use Rattle.walks.specs.Tracing.{Clear, Traced};
 ghost use Rattle.walks.specs.Walk.{Gains, Least};
@@ -14,7 +14,7 @@ ghost use Rattle.bay.specs.Routing.{Beyond};
 use crate::legs::{Leg, Legs, Note};
 use costs::Cost;
 use registers::MOST_FORMATS;
-use walks::{Cell, trace, write_chain, write_no_chain};
+use walks::{Cell, cell_at, trace, write_chain, write_no_chain};
 
 // Every leg without a chain, at the cost that changes nothing.
 fn clear_legs<C: Cost>(legs: &mut Legs, costs: &mut [C], chains: &mut [u8])
@@ -49,17 +49,6 @@ fn leads_to(legs: &Legs, goal: usize) -> bool
     false
 }
 
-// The least cost from `from` to `to`.
-fn least_cost<C: Cost>(table: &[Cell<C>], n: usize, from: usize, to: usize) -> Option<C>
-    requires room { n * n ≤ length table.now }
-    requires few { n ≤ 64 }
-    requires inside { (from < n) × (to < n) }
-    ensures { result ≡ (cell n table.now from to).least }
-{
-    let cell = table[from * n + to];
-    cell.least
-}
-
 // One leg: its row, cost and note, where a chain leads to its end.
 fn write_leg<C: Cost>(
     legs: &mut Legs,
@@ -83,7 +72,7 @@ fn write_leg<C: Cost>(
     if leg.from >= n {
         return;
     }
-    let Some(cost) = least_cost(table, n, leg.from, leg.to) else {
+    let Some(cost) = cell_at(table, n, leg.from, leg.to).least else {
         return;
     };
     costs[k] = cost;

@@ -8,8 +8,8 @@ use Rattle.std.proofs.lemmas.Nat.{div-mul-add, mod-mul-add}
 use Rattle.std.proofs.lemmas.Bool.{ltb-true, lt-ltb, ne_eqb, and_parts, and_from, cases_Bool, cases_eq, cond-true, cond-false}
 use Rattle.costs.specs.Algebra.{Algebra}
 use Rattle.walks.specs.Theorems.{Sound}
-use Rattle.walks.specs.Cells.{empty, cell, Kept, Laid, Each, cards_in}
-use Rattle.walks.specs.Solved.{Beyond, Fresh}
+use Rattle.walks.specs.Cells.{empty, cell, Beyond, Laid, Each, cards_in}
+use Rattle.walks.specs.Solved.{Fresh}
 use Rattle.walks.specs.declared.cells.Cell.{Cell}
 use Rattle.walks.proofs.Passes.{place_lt}
 
@@ -17,11 +17,8 @@ use Rattle.walks.proofs.Passes.{place_lt}
 pub beyond_front : {C : Type 0} (k : ℕ) (cells front : List (Cell C)) → length front ≡ k → k ≤ length cells → Beyond k cells (front ++ drop k cells)
 beyond_front k cells front long room = record {
   long = omega (arith, length-append front (drop k cells), length-drop k cells);
-  rest = λ j m. get_or-append_right front (drop k cells) k j empty long m ∙ get_or-drop k cells (j - k) empty ∙ ap (λ i. get_or cells i empty) (omega arith);
+  same = λ j d m. get_or-append_right front (drop k cells) k j d long m ∙ get_or-drop k cells (j - k) d ∙ ap (λ i. get_or cells i d) (omega arith);
 }
-
-pub beyond_kept : {C : Type 0} (n : ℕ) (first second third : List (Cell C)) → Beyond (n * n) first second → Kept n second third → Beyond (n * n) first third
-beyond_kept n first second third b k = record { long = k.long ∙ b.long; rest = λ j l. k.beyond j l ∙ b.rest j l }
 
 -- a cell that is set to a card
 pub fresh_made : (A : Algebra) {C : Type 0} (value : C → A.Value) (o : Option A.Value) (c : Option C) → option_map value c ≡ o → IfSome c (λ x. A.admits (value x) ≡ true) → Fresh A value o (record { card = c; least = c })

@@ -9,7 +9,7 @@ use Rattle.std.proofs.lemmas.Bool.{cases_eq, cases_lt, cases_Bool}
 use Rattle.costs.specs.Algebra.{Algebra, Lawful, reach}
 use Rattle.walks.specs.Walk.{LeastOf}
 use Rattle.walks.specs.Theorems.{Sound, Either}
-use Rattle.walks.specs.Cells.{empty, cell, Kept, Laid, cards_in, least_in}
+use Rattle.walks.specs.Cells.{empty, cell, Beyond, Kept, Laid, cards_in, least_in}
 use Rattle.walks.specs.Eliminated.{Block, Cross, Joinable, UndercutUnit, Near, Ready, Improved}
 use Rattle.walks.specs.declared.cells.Cell.{Cell}
 use Rattle.walks.proofs.Least.{either_new, either_better, either_kept, joined_is}
@@ -24,13 +24,22 @@ place_same n s t a b lt lb e = (
   sym (mod-mul-add s n t lt) ∙ ap (λ p. p % n) e ∙ mod-mul-add a n b lb,
 )
 
+pub beyond_none : {X : Type 0} (n : ℕ) (xs : List X) → Beyond n xs xs
+beyond_none n xs = record { long = refl; same = λ k d l. refl }
+
+pub beyond_then : {X : Type 0} (n : ℕ) (first second third : List X) → Beyond n first second → Beyond n second third → Beyond n first third
+beyond_then n first second third p q = record { long = q.long ∙ p.long; same = λ k d l. q.same k d l ∙ p.same k d l }
+
+-- what is written below n
+pub beyond_write : {X : Type 0} (n : ℕ) (xs : List X) (i : ℕ) (x : X) → i < n → Beyond n xs (set xs i x)
+beyond_write n xs i x h = record { long = length-set xs i x; same = λ k d l. get_or-set_other xs i k x d (λ e. absurd (omega arith)) }
+
 module _ {C : Type 0} (n : ℕ) where
   pub kept_none : (cells : List (Cell C)) → Kept n cells cells
-  kept_none cells = record { long = refl; card = λ k. refl; beyond = λ k l. refl }
+  kept_none cells = record { card = λ k. refl; beyond = beyond_none (n * n) cells }
 
   pub kept_then : (first second third : List (Cell C)) → Kept n first second → Kept n second third → Kept n first third
-  kept_then first second third p q =
-      record { long = q.long ∙ p.long; card = λ k. q.card k ∙ p.card k; beyond = λ k l. q.beyond k l ∙ p.beyond k l }
+  kept_then first second third p q = record { card = λ k. q.card k ∙ p.card k; beyond = beyond_then (n * n) first second third p.beyond q.beyond }
 
   -- what a write to the cell of s and t leaves, where its card stays
   abbrev pub with_least : List (Cell C) → ℕ → ℕ → Option C → List (Cell C)
@@ -38,12 +47,7 @@ module _ {C : Type 0} (n : ℕ) where
 
   pub kept_write : (cells : List (Cell C)) (s t : ℕ) (o : Option C) → n * n ≤ length cells → s < n → t < n → Kept n cells (with_least cells s t o)
   kept_write cells s t o room ls lt =
-      let here = place_lt n s t ls lt in
-      record {
-        long = length-set cells _ _;
-        card = λ k. at k (cases_eq k (s * n + t));
-        beyond = λ k l. get_or-set_other cells _ k _ empty (λ e. absurd (omega arith));
-      }
+      record { card = λ k. at k (cases_eq k (s * n + t)); beyond = beyond_write (n * n) cells _ _ (place_lt n s t ls lt) }
     where
       at : (k : ℕ) → (k ≡ s * n + t) ⊎ (k ≡ s * n + t → ⊥) → (get_or (with_least cells s t o) k empty).card ≡ (get_or cells k empty).card
       at k (inl e) =
@@ -64,7 +68,7 @@ module _ (A : Algebra) {C : Type 0} (value : C → A.Value) (n : ℕ) where
       fun_ext (λ s. fun_ext (λ t. ap (λ o. cond (ltb s n && (ltb t n && not (eqb s t))) (option_map value o) None) (k.card (s * n + t))))
 
   pub laid_kept : (entry exit : List (Cell C)) → Kept n entry exit → Laid A value n entry → Laid A value n exit
-  laid_kept entry exit k l = record { room = rw k.long l.room; sound = subst (Sound A n) (sym (cards_kept entry exit k)) l.sound }
+  laid_kept entry exit k l = record { room = rw k.beyond.long l.room; sound = subst (Sound A n) (sym (cards_kept entry exit k)) l.sound }
 
   -- one write of the better cost is a pass over one cell
   improved_write : (k s t : ℕ) (cells : List (Cell C)) (o : Option C) → n * n ≤ length cells → s < n → t < n → (s ≡ t → ⊥) →
@@ -128,7 +132,7 @@ module _ (A : Algebra) {C : Type 0} (value : C → A.Value) (n : ℕ) where
   pub ready_kept : (k : ℕ) (H : ℕ → ℕ → Type 0) (entry exit : List (Cell C)) → ((s : ℕ) → (H s k → ⊥) × (H k s → ⊥)) →
       Improved A value n k H entry exit → Ready A value n k entry → Ready A value n k exit
   ready_kept k H entry exit away i r = record {
-    room = rw i.kept.long r.room;
+    room = rw i.kept.beyond.long r.room;
     small = r.small;
     inside = r.inside;
     near = λ s ls ne. (

@@ -13,11 +13,15 @@ empty = record { card = None; least = None }
 abbrev pub cell : {C : Type 0} → ℕ → List (Cell C) → ℕ → ℕ → Cell C
 cell n cells s t = slice_index_or cells (s * n + t) empty
 
+-- places from n on are as they were, and so is the length
+pub record Beyond {X : Type 0} (n : ℕ) (before after : List X) : Type 0 where
+  pub long : length after ≡ length before
+  pub same : (k : ℕ) (d : X) → n ≤ k → slice_index_or after k d ≡ slice_index_or before k d
+
 -- every cell's card is as it was, and so is every cell beyond the n × n
 pub record Kept {C : Type 0} (n : ℕ) (entry exit : List (Cell C)) : Type 0 where
-  pub long : length exit ≡ length entry
   pub card : (k : ℕ) → (get_or exit k empty).card ≡ (get_or entry k empty).card
-  pub beyond : (k : ℕ) → n * n ≤ k → slice_index_or exit k empty ≡ slice_index_or entry k empty
+  pub beyond : Beyond (n * n) entry exit
 
 module _ (A : Algebra) {C : Type 0} (value : C → A.Value) (n : ℕ) (cells : List (Cell C)) where
   -- the cost of the card from s to t, for two different formats below n

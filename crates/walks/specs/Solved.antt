@@ -1,10 +1,10 @@
 -- A register's cards brought to least costs in a table of cells, and a loop that undercuts the unit.
 -- `card` is the cost of the card between two formats, by what it means.
-use Rattle.std.specs.Prelude.{◌≡◌, ℕ, ◌≤◌, true, cond, ◌&&◌, List, length, IfSome, Some, None, Option, nat_le, nat_lt, slice_index_or}
+use Rattle.std.specs.Prelude.{◌≡◌, ℕ, true, cond, ◌&&◌, List, IfSome, Some, None, Option, nat_le, nat_lt}
 use Rattle.std.specs.Option.{option_map}
 use Rattle.costs.specs.Algebra.{Algebra}
 use Rattle.walks.specs.Walk.{path, cost, Loop, Least, Gains}
-use Rattle.walks.specs.Cells.{empty, cards_in, least_in, Laid, Each}
+use Rattle.walks.specs.Cells.{cards_in, least_in, Laid, Each}
 use Rattle.walks.specs.Eliminated.{Looked, UndercutUnit}
 use Rattle.walks.specs.Sheet.{row_of, put_row}
 use Rattle.walks.specs.declared.cells.Cell.{Cell}
@@ -12,11 +12,6 @@ use Rattle.walks.specs.declared.cells.Cell.{Cell}
 -- the cards that lead from a format below `high` to one up to it
 abbrev pub upto : {V : Type 0} → ℕ → (ℕ → ℕ → Option V) → ℕ → ℕ → Option V
 upto high card s t = cond (nat_lt s high && nat_le t high) (card s t) None
-
--- the length is as it was, and so is every cell from k on
-pub record Beyond {C : Type 0} (k : ℕ) (entry exit : List (Cell C)) : Type 0 where
-  pub long : length exit ≡ length entry
-  pub rest : (j : ℕ) → k ≤ j → slice_index_or exit j empty ≡ slice_index_or entry j empty
 
 module _ (A : Algebra) where
   -- some loop at h undercuts the unit, and row 0 of the sheet has it

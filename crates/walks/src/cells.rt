@@ -1,7 +1,7 @@
 // The cells of a working table.
 ghost use Rattle.std.specs.Prelude.{◌≡◌, ◌*◌, ◌<◌, ◌≤◌, length};
 ghost use Rattle.costs.specs.Algebra.{reach};
-ghost use Rattle.walks.specs.Cells.{cell};
+ghost use Rattle.walks.specs.Cells.{cell, empty};
 
 use costs::Cost;
 
@@ -13,8 +13,20 @@ pub struct Cell<C> {
     pub least: Option<C>,
 }
 
-// The cell of `s` and `t`.
-pub(crate) fn cell_at<C: Cost>(cells: &[Cell<C>], n: usize, s: usize, t: usize) -> Cell<C>
+impl<C> Cell<C> {
+    // The cell that holds nothing.
+    pub fn empty() -> Cell<C>
+        ensures { result ≡ empty }
+    {
+        Cell {
+            card: None,
+            least: None,
+        }
+    }
+}
+
+// The cell of `s` and `t`. The table is a plain slice, whose holder has room for more cells: so `n` is passed beside it.
+pub fn cell_at<C: Cost>(cells: &[Cell<C>], n: usize, s: usize, t: usize) -> Cell<C>
     requires room { n * n ≤ length cells.now }
     requires small { n ≤ reach }
     requires inside { (s < n) × (t < n) }

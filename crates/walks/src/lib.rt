@@ -1,5 +1,5 @@
 // Walks over the cards of a register: what they cost, and which cost least.
-// `price` is for anybody. The search, the trace and the rows are pub only for our own crates, and ask something of their callers.
+// `price` is for anybody. The cells, the search, the trace and the rows are pub only for our own crates, and ask something of their callers.
 #![tactic(auto)]
 
 mod cells;
@@ -11,7 +11,7 @@ mod search;
 mod theory;
 mod trail;
 
-pub use cells::Cell;
+pub use cells::{Cell, cell_at};
 pub use eliminate::{first_stage, second_stage, third_stage};
 pub use examples::worked_cases;
 pub use pricing::{Unpriced, price};

@@ -2,11 +2,11 @@
 ghost use Rattle.std.specs.Prelude.{◌≡◌, ℕ, ◌*◌, ◌/◌, ◌%◌, ◌<◌, ◌≤◌, true, length, Decides, IfSome, Some, slice_index_or};
 ghost use Rattle.std.specs.Option.{option_map};
 ghost use Rattle.registers.specs.Meaning.{meant, standing};
-ghost use Rattle.walks.specs.Cells.{empty, Laid, Kept, Each, cards_in, least_in};
+ghost use Rattle.walks.specs.Cells.{empty, Beyond, Laid, Kept, Each, cards_in, least_in};
 ghost use Rattle.walks.specs.Eliminated.{Near, Looked};
 ghost use Rattle.walks.specs.Theorems.{Sound};
 ghost use Rattle.walks.specs.Tracing.{Clear};
-ghost use Rattle.walks.specs.Solved.{upto, Beyond, Fresh, Solved, Turns, LoopWritten};
+ghost use Rattle.walks.specs.Solved.{upto, Fresh, Solved, Turns, LoopWritten};
 
 use crate::cells::{Cell, cell_at};
 use crate::eliminate::{first_stage, second_stage, third_stage, undercut_unit};

@@ -1,8 +1,9 @@
 -- All of a register's cards are cards up to its size.
 use Rattle.std.proofs.Common.{◌*◌, subst}
 use Rattle.registers.specs.Meaning.{meant, standing}
+use Rattle.walks.specs.Cells.{Beyond}
 use Rattle.walks.specs.Theorems.{Sound}
-use Rattle.walks.specs.Solved.{upto, Beyond, Solved}
+use Rattle.walks.specs.Solved.{upto, Solved}
 use Rattle.walks.proofs.Restrict.{standing_inside, upto_all}
 use Rattle.walks.proofs.search.solve.Goals as goal
 

@@ -1,9 +1,10 @@
 -- The table is loaded with the cards, so what the stages find of its cards holds of them.
-use Rattle.std.proofs.Common.{subst}
+use Rattle.std.proofs.Common.{◌*◌, subst}
 use Rattle.registers.specs.Meaning.{meant, standing}
 use Rattle.walks.specs.Solved.{upto, Solved}
 use Rattle.walks.proofs.Restrict.{upto_inside}
-use Rattle.walks.proofs.Loaded.{beyond_kept, loaded_cards, loaded_fresh, loaded_laid, loaded_sound}
+use Rattle.walks.proofs.Passes.{beyond_then}
+use Rattle.walks.proofs.Loaded.{loaded_cards, loaded_fresh, loaded_laid, loaded_sound}
 use Rattle.walks.proofs.search.solve_upto.Goals as goal
 
 pub settle-requires : goal.settle-requires
@@ -29,7 +30,7 @@ returns g c =
     let card = upto c.args.high (standing m) in
     let inside = upto_inside c.args.high n m c.requires.size in
     record {
-      beyond = beyond_kept n _ _ _ c.load.ensures.beyond c.settle.ensures.kept;
+      beyond = beyond_then (n * n) _ _ _ c.load.ensures.beyond c.settle.ensures.kept.beyond;
       sound = loaded_sound A value n card _ inside c.load.ensures.loaded c.requires.few.1;
       solved = subst (λ f. Solved A value n f c.settle.new.cells c.settle.result) (loaded_cards A value n card _ inside c.load.ensures.loaded) c.settle.ensures.solved;
     }

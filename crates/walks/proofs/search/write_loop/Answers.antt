@@ -2,7 +2,7 @@
 use Rattle.std.proofs.Common.{◌*◌, ◌∷◌, refl, subst, arith}
 use Rattle.registers.specs.Meaning.{meant}
 use Rattle.walks.specs.Walk.{path}
-use Rattle.walks.specs.Solved.{Beyond}
+use Rattle.walks.specs.Cells.{Beyond}
 use Rattle.walks.proofs.Restrict.{standing_inside}
 use Rattle.walks.proofs.Turning.{solved_back, back_calm, back_least, turns_near, turns_some, turns_loop}
 use Rattle.walks.proofs.search.write_loop.Goals as goal

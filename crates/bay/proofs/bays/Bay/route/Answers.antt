@@ -3,13 +3,14 @@ use Rattle.std.proofs.Common.{◌*◌, ◌≤◌, map, length, get_or, Ok, sym, 
 use lib.ListN.{length-map}
 use Rattle.registers.specs.Meaning.{meant, standing}
 use Rattle.walks.proofs.Follow.{none_ticked}
+use Rattle.walks.proofs.Passes.{beyond_then}
 use Rattle.walks.specs.Sheet.{row_at}
 use Rattle.bay.specs.Legs.{booked}
 use Rattle.bay.specs.Plain.{ends}
 use Rattle.bay.specs.Routes.{Routed, note_of}
 use Rattle.bay.specs.Routing.{Beyond}
 use Rattle.bay.proofs.Granted.{ends_opened}
-use Rattle.bay.proofs.RouteCall.{room_enough, table_beyond, table_once, loop_in_row, settled_cards, settled_laid, settled_calm, settled_least, ends_renoted}
+use Rattle.bay.proofs.RouteCall.{room_enough, loop_in_row, settled_cards, settled_laid, settled_calm, settled_least, ends_renoted}
 use Rattle.bay.proofs.bays.Bay.route.Goals as goal
 
 pub write_loop-requires : goal.write_loop-requires
@@ -58,7 +59,7 @@ returns-in-Some g c =
         chains = row.1;
         costs = refl;
         legs = opened-legs;
-        table = table_beyond (n * n) c.args.table.now c.solve.new.cells c.write_loop.new.cells told.beyond c.write_loop.ensures.beyond;
+        table = beyond_then (n * n) c.args.table.now c.solve.new.cells c.write_loop.new.cells told.beyond c.write_loop.ensures.beyond;
       }));
       same = λ i. record { register = meant g.R.Cost.Cost.value (g.R.Register.holds c.args.self.now.register); legs = (ap (map ends) opened-legs ∙ ends_opened legs) i };
     }
@@ -84,7 +85,7 @@ returns-in-None g c =
         costs = subst (λ k. Beyond k c.args.costs.now c.write_routes.new.costs) count wrote.costs;
         legs = wrote.legs;
         notes = λ k h. wrote.notes k (omega (arith, count));
-        table = table_once (n * n) c.args.table.now c.solve.new.cells told.beyond;
+        table = told.beyond;
       }));
       same = λ i. record { register = meant value (g.R.Register.holds c.args.self.now.register); legs = ends_renoted legs after (λ k. note_of (row_at c.write_routes.new.chains k)) wrote.legs wrote.notes i };
     }
