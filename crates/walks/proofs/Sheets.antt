@@ -1,8 +1,7 @@
 -- Rows of a sheet: a chain is followed and written byte by byte, and a written row leaves all other bytes as they were.
-use Rattle.std.proofs.Common.{◌≡◌, ℕ, ◌+◌, ◌-◌, ◌*◌, ◌<◌, ◌≤◌, min, ◌⊎◌, List, [], ◌∷◌, ◌++◌, length, get_or, take, drop, set, replicate, Option, sym, refl, ap, ◌∙◌, inl, inr, arith}
-use lib.Seq.{paste}
+use Rattle.std.proofs.Common.{◌≡◌, ℕ, ◌+◌, ◌-◌, ◌*◌, ◌<◌, ◌≤◌, min, ◌⊎◌, List, [], ◌∷◌, ◌++◌, length, get_or, take, drop, set, replicate, Option, sym, refl, ap, ◌∙◌, inl, inr, arith, take_all}
+use borrow.Rule.Slice.PartMut.{put_mid, Post-is}
 use Rattle.std.proofs.lemmas.List.{append_assoc, length-append, length-drop, length-replicate, length-take, length-take-le, drop_more, take_more, set_at, take_at, drop_at, get_or_append_left, get_or-append_right, get_or-take, get_or-drop, ext_get_or}
-use Rattle.std.proofs.lemmas.List.Edits.{paste_none, paste_more, paste_all, paste-paste}
 use Rattle.std.proofs.lemmas.Bool.{cases_lt}
 use Rattle.costs.specs.Algebra.{Algebra, Lawful}
 use Rattle.walks.specs.Walk.{path, Below, Chain}
@@ -17,15 +16,15 @@ use Rattle.walks.proofs.Fold.{below_join, below_mono}
 use Rattle.walks.proofs.Loops.{runs_inside}
 use Rattle.walks.proofs.Cut.{distinct_few}
 
--- the chain from `from` is followed as far as `here`, and its first i formats stand in the sheet from `at` on
-pub record Reading (most : ℕ) (next : List ℕ) (goal from : ℕ) (old : List ℕ) (at here i : ℕ) (sheet : List ℕ) : Type 0 where
+-- the chain from `from` is followed as far as `here`, and its first i formats stand in the first of the places
+pub record Reading (next : List ℕ) (goal from : ℕ) (old : List ℕ) (here i : ℕ) (places : List ℕ) : Type 0 where
   pub formats : List ℕ
   pub follows : Follows next goal from formats
   pub below : Below most_formats formats
-  pub few : length formats ≤ most
+  pub few : length formats ≤ length old
   pub inside : i < length formats
   pub left : Follows next goal here (drop i formats)
-  pub written : sheet ≡ paste old at formats i
+  pub written : places ≡ take i formats ++ drop i old
 
 module _ (next : List ℕ) (goal : ℕ) where
   follows_some : (v : ℕ) (fs : List ℕ) → Follows next goal v fs → 0 < length fs
@@ -40,11 +39,11 @@ module _ (next : List ℕ) (goal : ℕ) where
   follows_last v x [] h e = refl
   follows_last v x (f ∷ fs) h e = absurd (h.1 e)
 
-  module _ (most from : ℕ) (old : List ℕ) (at : ℕ) where
-    pub reading_none : LeadsIn most next goal from → Reading most next goal from old at from 0 old
-    reading_none (fs, h, b, l) = record { formats = fs; follows = h; below = b; few = l; inside = follows_some from fs h; left = h; written = paste_none old at fs }
+  module _ (from : ℕ) (old : List ℕ) where
+    pub reading_none : LeadsIn (length old) next goal from → Reading next goal from old from 0 old
+    reading_none (fs, h, b, l) = record { formats = fs; follows = h; below = b; few = l; inside = follows_some from fs h; left = h; written = refl }
 
-    module _ (here i : ℕ) (sheet : List ℕ) (r : Reading most next goal from old at here i sheet) where
+    module _ (here i : ℕ) (places : List ℕ) (r : Reading next goal from old here i places) where
       at_drop : Follows next goal here (get_or r.formats i 0 ∷ drop (i + 1) r.formats)
       at_drop = rw (drop_more r.formats i 0 r.inside) at r.left
 
@@ -54,60 +53,48 @@ module _ (next : List ℕ) (goal : ℕ) where
       pub reading_inside : here < most_formats
       reading_inside = rw is_here at (below_at most_formats r.formats i r.inside r.below)
 
-      pub reading_goes_on : i < most
+      pub reading_goes_on : i < length old
       reading_goes_on = omega (arith, r.few, r.inside)
 
-      module _ (room : at + most ≤ length old) where
-        wrote : set sheet (at + i) here ≡ paste old at r.formats (i + 1)
-        wrote = ap (λ s. set s (at + i) here) r.written ∙ ap (set (paste old at r.formats i) (at + i)) (sym is_here) ∙ paste_more old at r.formats i 0 (omega (arith, reading_goes_on)) r.inside
+      wrote : set places i here ≡ take (i + 1) r.formats ++ drop (i + 1) old
+      wrote =
+          let front : length (take i r.formats) ≡ i = length-take-le i r.formats (omega (arith, r.inside)) in
+          ap (λ s. set s i here) (r.written ∙ ap (λ ds. take i r.formats ++ ds) (drop_more old i 0 reading_goes_on)) ∙
+          set_at (take i r.formats) (get_or old i 0) (drop (i + 1) old) here i front ∙
+          rw (take_more r.formats i 0 r.inside, is_here) (sym (append_assoc (take i r.formats) (here ∷ []) (drop (i + 1) old)))
 
-        pub reading_more : (here ≡ goal → ⊥) → Reading most next goal from old at (get_or next here 0) (i + 1) (set sheet (at + i) here)
-        reading_more ne =
-            let on = follows_on here (get_or r.formats i 0) (drop (i + 1) r.formats) at_drop ne in
-            record {
-              formats = r.formats;
-              follows = r.follows;
-              below = r.below;
-              few = r.few;
-              inside = omega (arith, follows_some (get_or next here 0) (drop (i + 1) r.formats) on, length-drop (i + 1) r.formats);
-              left = on;
-              written = wrote;
-            }
+      pub reading_more : (here ≡ goal → ⊥) → Reading next goal from old (get_or next here 0) (i + 1) (set places i here)
+      reading_more ne =
+          let on = follows_on here (get_or r.formats i 0) (drop (i + 1) r.formats) at_drop ne in
+          record {
+            formats = r.formats;
+            follows = r.follows;
+            below = r.below;
+            few = r.few;
+            inside = omega (arith, follows_some (get_or next here 0) (drop (i + 1) r.formats) on, length-drop (i + 1) r.formats);
+            left = on;
+            written = wrote;
+          }
 
-        pub reading_all : here ≡ goal → (fs : List ℕ) → Follows next goal from fs → (i + 1 ≡ length fs) × (set sheet (at + i) here ≡ paste old at fs (length fs))
-        reading_all e fs h =
-            let same = follows_same next goal from r.formats fs r.follows h in
-            let end : i + 1 ≡ length r.formats = omega (arith, follows_last here (get_or r.formats i 0) (drop (i + 1) r.formats) at_drop e, length-drop (i + 1) r.formats, r.inside) in
-            (end ∙ ap length same, wrote ∙ ap (paste old at r.formats) end ∙ ap (λ gs. paste old at gs (length gs)) same)
+      pub reading_all : here ≡ goal → (fs : List ℕ) → Follows next goal from fs → (i + 1 ≡ length fs) × (set places i here ≡ fs ++ drop (length fs) old)
+      reading_all e fs h =
+          let same = follows_same next goal from r.formats fs r.follows h in
+          let end : i + 1 ≡ length r.formats = omega (arith, follows_last here (get_or r.formats i 0) (drop (i + 1) r.formats) at_drop e, length-drop (i + 1) r.formats, r.inside) in
+          (end ∙ ap length same, wrote ∙ ap (λ k. take k r.formats ++ drop k old) end ∙ ap (λ gs. gs ++ drop (length r.formats) old) (take_all (length r.formats) r.formats (omega arith)) ∙ ap (λ gs. gs ++ drop (length gs) old) same)
 
--- the formats, what stands behind them and their number make a row
-framed : (old : List ℕ) (at : ℕ) (fs : List ℕ) → at + 66 ≤ length old → length fs ≤ most_in_row →
-    set (paste (paste old (at + 1) fs (length fs)) (at + 1 + length fs) (replicate (most_in_row - length fs) 255) (most_in_row - length fs)) at (length fs) ≡
-    take at old ++ (row_of fs ++ drop (at + 66) old)
-framed old at fs room few =
-    let rest : List ℕ = replicate (most_in_row - length fs) 255 in
-    let long : most_in_row ≡ length (fs ++ rest) = omega (arith, length-append fs rest, length-replicate {A = ℕ} (most_in_row - length fs) 255) in
-    let sum : length fs + (most_in_row - length fs) ≡ most_in_row = omega arith in
-    let past : at + 1 + most_in_row ≡ at + 66 = omega arith in
-    let both : paste (paste old (at + 1) fs (length fs)) (at + 1 + length fs) rest (most_in_row - length fs) ≡ paste old (at + 1) (fs ++ rest) most_in_row =
-    paste-paste old (at + 1) fs rest (length fs) (most_in_row - length fs) refl (sym (length-replicate {A = ℕ} (most_in_row - length fs) 255)) (omega arith) ∙ ap (paste old (at + 1) (fs ++ rest)) sum in
-    let whole : paste old (at + 1) (fs ++ rest) most_in_row ≡ take at old ++ (get_or old at 0 ∷ ((fs ++ rest) ++ drop (at + 66) old)) =
-    paste_all old (at + 1) (fs ++ rest) most_in_row long ∙ rw (take_more old at 0 (omega arith), past) (append_assoc (take at old) (get_or old at 0 ∷ []) _) in
-    ap (λ s. set s at (length fs)) (both ∙ whole) ∙ set_at (take at old) (get_or old at 0) _ (length fs) at (length-take-le at old (omega arith))
+-- a row is a part of the sheet
+pub row_long : (sheet : List ℕ) (k : ℕ) → 66 * k + 66 ≤ length sheet → length (take (66 * k + 66 - 66 * k) (drop (66 * k) sheet)) ≡ 66
+row_long sheet k room = omega (arith, length-take (66 * k + 66 - 66 * k) (drop (66 * k) sheet), length-drop (66 * k) sheet)
 
-pub row_written : (old mid new : List ℕ) (at count : ℕ) (fs : List ℕ) → at + 66 ≤ length old → length fs ≤ most_in_row → count ≡ length fs →
-    mid ≡ paste old (at + 1) fs (length fs) → new ≡ set (paste mid (at + 1 + count) (replicate (most_in_row - count) 255) (most_in_row - count)) at count →
-    new ≡ take at old ++ (row_of fs ++ drop (at + 66) old)
-row_written old mid new at count fs room few c m n = n ∙ rw (c, m) (framed old at fs room few)
+pub row_put : (sheet row row' : List ℕ) (k : ℕ) → row ≡ row' → put_mid (66 * k) (66 * k + 66 - 66 * k) sheet row ≡ put_row sheet k row'
+row_put sheet row row' k e =
+    ap (put_mid (66 * k) (66 * k + 66 - 66 * k) sheet) e ∙ ap (λ rest. take (66 * k) sheet ++ (row' ++ rest)) (Post-is (66 * k) (66 * k + 66) sheet (omega arith))
 
--- a format, and then more behind it
-pub paste_front : (old : List ℕ) (at f : ℕ) (fs : List ℕ) → at < length old → paste (set old at f) (at + 1) fs (length fs) ≡ paste old at (f ∷ fs) (length (f ∷ fs))
-paste_front old at f fs room =
-    let zero : at + 0 ≡ at = omega arith in
-    let sum : 1 + length fs ≡ length (f ∷ fs) = omega arith in
-    let one : set old at f ≡ paste old at (f ∷ []) 1 =
-    ap (λ i. set old i f) (sym zero) ∙ ap (λ s. set s (at + 0) f) (paste_none old at (f ∷ [])) ∙ paste_more old at (f ∷ []) 0 0 (omega arith) (omega arith) in
-    ap (λ s. paste s (at + 1) fs (length fs)) one ∙ paste-paste old at (f ∷ []) fs 1 (length fs) refl refl (omega arith) ∙ ap (paste old at (f ∷ fs)) sum
+-- a row whose first format was written, and then the others
+pub round_begun : (row places tail : List ℕ) (goal : ℕ) (fs rest : List ℕ) → 2 ≤ length row → places ≡ fs ++ rest → drop 1 (take 2 (set row 1 goal) ++ (places ++ tail)) ≡ (goal ∷ fs) ++ (rest ++ tail)
+round_begun [] places tail goal fs rest h e = absurd (omega arith)
+round_begun (x ∷ []) places tail goal fs rest h e = absurd (omega arith)
+round_begun (x ∷ y ∷ row) places tail goal fs rest h e = ap (λ ps. goal ∷ (ps ++ tail)) e ∙ ap (λ ps. goal ∷ ps) (append_assoc fs rest tail)
 
 pub leads_few : (most : ℕ) (next : List ℕ) (goal from : ℕ) → LeadsIn most next goal from → (fs : List ℕ) → Follows next goal from fs → length fs ≤ most
 leads_few most next goal from (gs, k, b, l) fs h = omega (arith, ap length (follows_same next goal from gs fs k h))

@@ -1,4 +1,5 @@
 // Three stages that bring a table of cells, each with its card's cost, to least costs.
+// They go over formats by `for` and range: a format is its number, and where its cells lie is computed from it.
 ghost use Rattle.std.specs.Prelude.{◌≡◌, ℕ, ◌+◌, ◌*◌, ◌<◌, ◌≤◌, true, false, Decides, ◌≢◌};
 ghost use Rattle.std.specs.Option.{option_map};
 ghost use Rattle.walks.specs.Walk.{LeastOf};

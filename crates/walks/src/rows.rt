@@ -1,6 +1,5 @@
 // Rows of a sheet, each with the formats of one chain.
-ghost use Rattle.std.specs.Prelude.{◌≡◌, ℕ, ◌+◌, ◌-◌, ◌*◌, ◌<◌, ◌≤◌, List, [], ◌∷◌, length, replicate, slice_set};
-ghost use Rattle.std.proofs.Math.Seq.{paste};
+ghost use Rattle.std.specs.Prelude.{◌≡◌, ℕ, ◌+◌, ◌*◌, ◌<◌, ◌≤◌, List, [], ◌∷◌, ◌++◌, length, drop};
 ghost use Rattle.walks.specs.Sheet.{Leads, LeadsIn, put_row, row_of};
 ghost use Rattle.walks.specs.Tracing.{Follows};
 
@@ -15,22 +14,14 @@ pub const ROW: usize = 1 + MOST_IN_ROW;
 // What stands behind the formats of a row.
 const NO_FORMAT: u8 = 255;
 
-// Writes the formats met by following `next` from `from` to the goal, at most `most`, from `at` on. Answers how many they are.
-fn follow(
-    next: &[usize; MOST_FORMATS],
-    from: usize,
-    goal: usize,
-    sheet: &mut [u8],
-    at: usize,
-    most: usize,
-) -> usize
-    requires room { at + most ≤ length sheet.old }
-    requires leads { LeadsIn most next.now goal from }
-    ensures { (fs : List ℕ) → Follows next.now goal from fs → (result ≡ length fs) × (sheet.new ≡ paste sheet.old at fs (length fs)) }
+// Writes the formats met by following `next` from `from` to the goal into the first of the places. Answers how many they are.
+fn follow(next: &[usize; MOST_FORMATS], from: usize, goal: usize, places: &mut [u8]) -> usize
+    requires leads { LeadsIn (length places.old) next.now goal from }
+    ensures { (fs : List ℕ) → Follows next.now goal from fs → (result ≡ length fs) × (places.new ≡ fs ++ drop (length fs) places.old) }
 {
     let mut here = from;
-    for i in 0..most {
-        sheet[at + i] = here as u8;
+    for (i, place) in places.iter_mut().enumerate() {
+        *place = here as u8;
         if here == goal {
             return i + 1;
         }
@@ -39,14 +30,14 @@ fn follow(
     unreachable!()
 }
 
-// Writes the number of formats at `at`, and what stands behind so many formats.
-fn frame(sheet: &mut [u8], at: usize, count: usize)
-    requires room { at + 66 ≤ length sheet.old }
+// Writes what stands before and behind so many formats of a row.
+fn frame(row: &mut [u8], count: usize)
+    requires whole { length row.old ≡ 66 }
     requires few { count ≤ 65 }
-    ensures { sheet.new ≡ slice_set (paste sheet.old (at + 1 + count) (replicate (65 - count) 255) (65 - count)) at count }
+    ensures { (fs rest : List ℕ) → drop 1 row.old ≡ fs ++ rest → count ≡ length fs → row.new ≡ row_of fs }
 {
-    sheet[at + 1 + count..at + ROW].fill(NO_FORMAT);
-    sheet[at] = count as u8;
+    row[0] = count as u8;
+    row[1 + count..].fill(NO_FORMAT);
 }
 
 // Writes into row `k` of the sheet the chain met by following `next` from `from` to the goal. Answers how many formats it has.
@@ -61,9 +52,9 @@ pub fn write_chain(
     requires leads { Leads next.now goal from }
     ensures written { (fs : List ℕ) → Follows next.now goal from fs → (result ≡ length fs) × (sheet.new ≡ put_row sheet.old k (row_of fs)) }
 {
-    let at = ROW * k;
-    let count = follow(next, from, goal, sheet, at + 1, MOST_IN_ROW);
-    frame(sheet, at, count);
+    let row = &mut sheet[ROW * k..ROW * k + ROW];
+    let count = follow(next, from, goal, &mut row[1..]);
+    frame(row, count);
     count
 }
 
@@ -80,10 +71,10 @@ pub(crate) fn write_round(
     requires inside { goal < 64 }
     ensures written { (fs : List ℕ) → Follows next.now goal from fs → sheet.new ≡ put_row sheet.old k (row_of (goal ∷ fs)) }
 {
-    let at = ROW * k;
-    sheet[at + 1] = goal as u8;
-    let count = follow(next, from, goal, sheet, at + 2, MOST_FORMATS);
-    frame(sheet, at, count + 1);
+    let row = &mut sheet[ROW * k..ROW * k + ROW];
+    row[1] = goal as u8;
+    let count = follow(next, from, goal, &mut row[2..]);
+    frame(row, 1 + count);
 }
 
 // Writes into row `k` of the sheet that there is no chain.
@@ -91,5 +82,6 @@ pub fn write_no_chain(sheet: &mut [u8], k: usize)
     requires room { 66 * k + 66 ≤ length sheet.old }
     ensures written { sheet.new ≡ put_row sheet.old k (row_of []) }
 {
-    frame(sheet, ROW * k, 0);
+    let row = &mut sheet[ROW * k..ROW * k + ROW];
+    frame(row, 0);
 }

@@ -2,11 +2,11 @@
 ghost use Rattle.std.specs.Prelude.{◌≡◌, ℕ, ◌*◌, ◌/◌, ◌%◌, ◌<◌, ◌≤◌, true, length, Decides, IfSome, Some, slice_index_or};
 ghost use Rattle.std.specs.Option.{option_map};
 ghost use Rattle.registers.specs.Meaning.{meant, standing};
-ghost use Rattle.walks.specs.Cells.{empty, Beyond, Laid, Kept, Each, cards_in, least_in};
-ghost use Rattle.walks.specs.Eliminated.{Near, Looked};
+ghost use Rattle.walks.specs.Cells.{empty, Beyond, Laid, Kept, Each, cards_in};
+ghost use Rattle.walks.specs.Eliminated.{Looked};
 ghost use Rattle.walks.specs.Theorems.{Sound};
 ghost use Rattle.walks.specs.Tracing.{Clear};
-ghost use Rattle.walks.specs.Solved.{upto, Fresh, Solved, Turns, LoopWritten};
+ghost use Rattle.walks.specs.Solved.{upto, Fresh, Homeward, Solved, Turns, LoopWritten};
 
 use crate::cells::{Cell, cell_at};
 use crate::eliminate::{first_stage, second_stage, third_stage, undercut_unit};
@@ -89,10 +89,8 @@ pub fn solve<R: Register>(register: &R, cells: &mut [Cell<R::Cost>]) -> Option<u
 
 // Whether the card from `h` to `v` and the least cost back undercut the unit together.
 fn turns<R: Register>(register: &R, cells: &[Cell<R::Cost>], n: usize, h: usize, v: usize) -> bool
-    requires room { n * n ≤ length cells.now }
-    requires few { n ≤ 64 }
-    requires inside { (h < n) × (v < h) }
-    requires near { Near R.Cost.Cost.algebra n (least_in R.Cost.Cost.algebra R.Cost.Cost.value n cells.now v h) }
+    requires homeward { Homeward R.Cost.Cost.algebra R.Cost.Cost.value n cells.now h }
+    requires lower { v < h }
     ensures { Decides result (Turns R.Cost.Cost.algebra R.Cost.Cost.value n (standing (meant R.Cost.Cost.value (R.Register.holds register.now))) cells.now h v) }
 {
     undercut_unit(register.card(h, v), cell_at(cells, n, v, h).least)
@@ -100,10 +98,7 @@ fn turns<R: Register>(register: &R, cells: &[Cell<R::Cost>], n: usize, h: usize,
 
 // A format below `h` such that the card from `h` to it and the least cost back undercut the unit together.
 fn way_out<R: Register>(register: &R, cells: &[Cell<R::Cost>], n: usize, h: usize) -> usize
-    requires room { n * n ≤ length cells.now }
-    requires few { n ≤ 64 }
-    requires inside { h < n }
-    requires near { (v : ℕ) → v < h → Near R.Cost.Cost.algebra n (least_in R.Cost.Cost.algebra R.Cost.Cost.value n cells.now v h) }
+    requires homeward { Homeward R.Cost.Cost.algebra R.Cost.Cost.value n cells.now h }
     requires some { (v : ℕ) × (v < h) × Turns R.Cost.Cost.algebra R.Cost.Cost.value n (standing (meant R.Cost.Cost.value (R.Register.holds register.now))) cells.now h v }
     ensures { (result < h) × Turns R.Cost.Cost.algebra R.Cost.Cost.value n (standing (meant R.Cost.Cost.value (R.Register.holds register.now))) cells.now h result }
 {

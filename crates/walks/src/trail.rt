@@ -135,7 +135,8 @@ fn tight<C: Cost>(cells: &[Cell<C>], n: usize, goal: usize, from: usize, to: usi
     same(card.join(onward), whole)
 }
 
-// Each format with a tight card to `to`, which is in the tree, joins the tree and the queue.
+// Each format with a tight card to `to`, which is in the tree, joins the tree and the queue. A format is its number, so the loop
+// goes over the numbers.
 fn scan<C: Cost>(
     cells: &[Cell<C>],
     n: usize,

@@ -2,4 +2,4 @@ use Rattle.walks.proofs.Sheets.{Reading}
 use Rattle.walks.proofs.rows.follow.Given as goal
 
 abbrev pub invariant-loop-i : goal.invariant-loop-i
-invariant-loop-i l = Reading l.most l.next l.goal l.from l.initial.sheet l.at l.here l.i l.sheet
+invariant-loop-i l = Reading l.next l.goal l.from l.initial.places l.here l.i l.places

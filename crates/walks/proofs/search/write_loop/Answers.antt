@@ -27,10 +27,7 @@ way_out-from-requires g c =
     let back = solved_back g.met.R.Cost.Cost.lawful g.R.Cost.Cost.value (g.R.Register.holds c.args.register.now) _ _ _ _
     c.size-n.ensures.value c.size-n.ensures.bounds.1 c.requires.found c.solve_upto.ensures.sound c.solve_upto.ensures.solved in
     record {
-      room = back.settled.laid.room;
-      few = back.few;
-      inside = back.inside;
-      near = turns_near L _ _ _ _ _ back;
+      homeward = record { room = back.settled.laid.room; few = back.few; inside = back.inside; near = turns_near L _ _ _ _ _ back };
       some = turns_some L _ _ _ _ _ back (λ x e. (standing_inside m c.args.h c.args.h x e).2 refl) c.requires.found.1;
     }
 
