@@ -1,5 +1,5 @@
 // What a bay does with its legs.
-ghost use Rattle.std.specs.Prelude.{◌≡◌, ◌<◌, ◌≤◌, [], ◌∷◌, ◌++◌, length, MatchOption, ◌≢◌, slice_index_or, slice_set};
+ghost use Rattle.std.specs.Prelude.{◌≡◌, ◌<◌, ◌≤◌, [], ◌∷◌, ◌++◌, length, MatchOption, ◌≢◌, slice_index_or, slice_set, take, drop};
 ghost use Rattle.bay.specs.Leg.{no_leg, noted};
 ghost use Rattle.bay.specs.Legs.{booked, opened, struck, most_legs};
 
@@ -10,6 +10,16 @@ const NO_LEG: Leg = Leg {
     to: 1,
     note: Note::Open,
 };
+
+// The notes of the first legs become open.
+fn open_notes(list: &mut [Leg], count: usize)
+    requires { count ≤ length list.old }
+    ensures { list.new ≡ opened (take count list.old) ++ drop count list.old }
+{
+    for leg in list[..count].iter_mut() {
+        leg.note = Note::Open;
+    }
+}
 
 impl Legs {
     // No legs.
@@ -30,14 +40,18 @@ impl Legs {
         self.count
     }
 
+    // The legs by number.
+    pub(crate) fn as_slice(&self) -> &[Leg]
+        ensures { result.now ≡ booked self.now }
+    {
+        &self.list[..self.count]
+    }
+
     // Leg `number`, if there is one.
     pub fn get(&self, number: usize) -> Option<Leg>
         ensures { MatchOption result (length (booked self.now) ≤ number) (λ leg. (number < length (booked self.now)) × (leg ≡ slice_index_or (booked self.now) number no_leg)) }
     {
-        if number >= self.count {
-            return None;
-        }
-        Some(self.list[number])
+        self.as_slice().get(number).copied()
     }
 
     // One leg more at the end.
@@ -63,10 +77,7 @@ impl Legs {
     pub fn open_all(&mut self)
         ensures { booked self.new ≡ opened (booked self.old) }
     {
-        for number in 0..self.count {
-            let leg = &mut self.list[number];
-            leg.note = Note::Open;
-        }
+        open_notes(&mut self.list, self.count);
     }
 
     // Takes one leg out, and later legs move down by one.
@@ -74,10 +85,7 @@ impl Legs {
         requires { number < length (booked self.old) }
         ensures { booked self.new ≡ struck number (booked self.old) }
     {
-        let last = self.count - 1;
-        for place in number..last {
-            self.list[place] = self.list[place + 1];
-        }
-        self.count = last;
+        self.list.copy_within(number + 1..self.count, number);
+        self.count -= 1;
     }
 }

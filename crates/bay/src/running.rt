@@ -79,10 +79,8 @@ impl<R: Register> Bay<R> {
                 told.fill(legs, costs, chains);
                 Answer::Routed(told)
             }
-            Err(fault) => match fault {
-                BayFault::Loop => Answer::Looped(told.into_row(chains)),
-                _ => Answer::Refused(fault),
-            },
+            Err(BayFault::Loop) => Answer::Looped(told.into_row(chains)),
+            Err(fault) => Answer::Refused(fault),
         }
     }
 

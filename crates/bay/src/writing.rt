@@ -29,24 +29,11 @@ fn clear_legs<C: Cost>(legs: &mut Legs, costs: &mut [C], chains: &mut [u8])
     }
 }
 
-// Leg `k`, which is there.
-fn leg_at(legs: &Legs, k: usize) -> Leg
-    requires { k < length (booked legs.now) }
-    ensures { result ≡ slice_index_or (booked legs.now) k no_leg }
-{
-    legs.list[k]
-}
-
 // Whether some leg ends in the goal.
 fn leads_to(legs: &Legs, goal: usize) -> bool
     ensures { result ≡ false → (k : ℕ) → k < length (booked legs.now) → (get_or (booked legs.now) k no_leg).to ≢ goal }
 {
-    for k in 0..legs.len() {
-        if leg_at(legs, k).to == goal {
-            return true;
-        }
-    }
-    false
+    legs.as_slice().iter().any(|leg| leg.to == goal)
 }
 
 // One leg: its row, cost and note, where a chain leads to its end.
@@ -102,7 +89,7 @@ fn write_goal<C: Cost>(
     ensures served { Served C.Cost.algebra C.Cost.value (cards_in C.Cost.algebra C.Cost.value n table.now) next.now goal (page (booked legs.new) costs.new chains.new) }
 {
     for k in 0..legs.len() {
-        let leg = leg_at(legs, k);
+        let leg = legs.as_slice()[k];
         if leg.to == goal {
             write_leg(legs, k, leg, n, table, next, costs, chains);
         }

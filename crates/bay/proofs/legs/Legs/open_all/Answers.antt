@@ -1,18 +1,23 @@
-use Rattle.std.proofs.Common.{take, sym, ap, ◌∙◌, arith}
-use Rattle.bay.specs.Leg.{noted, no_leg}
-use Rattle.bay.specs.declared.legs.Note.TheVariants.{Open}
-use Rattle.bay.proofs.LegSteps.{applied_more, applied_all}
+use Rattle.std.proofs.Common.{◌≤◌, length, take, sym, ap, ◌∙◌, subst, arith}
+use lib.ListN.{length-map}
+use Rattle.std.proofs.lemmas.List.{take_at}
+use Rattle.bay.specs.Legs.{booked, opened}
+use Rattle.bay.specs.Leg.{Apart}
+use Rattle.bay.proofs.LegSteps.{apart_opened, length_booked, length_opened}
 use Rattle.bay.proofs.legs.Legs.open_all.Goals as goal
 
-pub loop-number-preserved : goal.loop-number-preserved
-loop-number-preserved c = (
-  c.loop-number.invariant.0,
-  applied_more no_leg (noted Open) c.args.self.now.list c.loop-number.self.list c.loop-number.number (omega (arith, c.loop-number.self.long, c.args.self.now.few)) c.loop-number.invariant.1,
-)
+pub invariant_of-self : goal.invariant_of-self
+invariant_of-self c =
+    let legs = c.args.self.now in
+    let is = c.open_notes.ensures in
+    let fits : legs.count ≤ length legs.list = omega (arith, legs.long, legs.few) in
+    record {
+      long = ap length is ∙ length_opened legs.count legs.list fits ∙ legs.long;
+      few = legs.few;
+      apart = subst (Apart legs.count) (sym is) (apart_opened legs.count legs.list fits legs.apart);
+    }
 
 pub returns : goal.returns
 returns c =
-    let now = c.loop-number.self in
-    let was = c.args.self.now in
-    ap (λ n. take n now.list) c.loop-number.invariant.0 ∙
-    applied_all no_leg (noted Open) was.list now.list c.loop-number.number was.count (now.long ∙ sym was.long) c.loop-number-test.false (omega (arith, was.long, was.few)) c.loop-number.invariant.1
+    let legs = c.args.self.now in
+    ap (take legs.count) c.open_notes.ensures ∙ take_at (opened (booked legs)) _ legs.count (length-map (booked legs) _ ∙ length_booked legs)
