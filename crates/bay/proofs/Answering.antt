@@ -205,7 +205,10 @@ module _ (A : Algebra) {C : Type 0} (value : C → A.Value) (p : Plain A.Value) 
   told_table r (inr (inl f)) = f.table
   told_table r (inr (inr g)) = g.table
 
--- a call that was taken apart is the call that was given
-pub call_given : (A : Algebra) {C : Type 0} (value : C → A.Value) (p p' : Plain A.Value) (before now : Desk C) (call taken : Call C) (answer : Answer C) → call ≡ taken →
-    CallDone A value p p' before now taken answer → CallDone A value p p' before now call answer
-call_given A value p p' before now call taken answer e d = subst (λ k. CallDone A value p p' before now k answer) (sym e) d
+-- a route that was left to do is the call that was given
+pub left_to_route : (A : Algebra) {C : Type 0} (value : C → A.Value) (p q q' : Plain A.Value) (legs : List Leg) (before now : Desk C) (call : Call C) (answer : Answer C) →
+    call ≡ Route → q ≡ p → before.legs ≡ legs → CallDone A value q q' before now Route answer →
+    CallDone A value p q' (record { legs = legs; table = before.table; costs = before.costs; chains = before.chains }) now call answer
+left_to_route A {C} value p q q' legs before now call answer is same same_legs d =
+    let desk : List Leg → Desk C = λ l. record { legs = l; table = before.table; costs = before.costs; chains = before.chains } in
+    subst (λ k. CallDone A value p q' (desk legs) now k answer) (sym is) (subst₂ (λ x l. CallDone A value x q' (desk l) now Route answer) same same_legs d)

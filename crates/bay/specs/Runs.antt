@@ -1,5 +1,5 @@
 -- The law over whole runs: what every call of a list is answered, by the plain bay as that call finds it.
-use Rattle.std.specs.Prelude.{◌≡◌, ℕ, suc, ◌*◌, ◌<◌, ◌≤◌, Bool, ◌⊎◌, List, [], ◌∷◌, ◌++◌, length, take, drop, Some, None, vec_items, vec_len, vec_capacity, fold, Option, Vec, slice_index_or}
+use Rattle.std.specs.Prelude.{◌≡◌, ℕ, suc, ◌*◌, ◌<◌, ◌≤◌, Bool, ◌⊎◌, List, [], ◌∷◌, ◌++◌, length, take, drop, Some, None, Ok, Err, vec_items, vec_len, vec_capacity, fold, Option, Result, Vec, slice_index_or}
 use Rattle.std.specs.declared.alloc.Global.{Global}
 use Rattle.costs.specs.Algebra.{Algebra}
 use Rattle.registers.specs.Fault.{after, first_cause}
@@ -7,6 +7,7 @@ use Rattle.registers.specs.Meaning.{enter_causes, withdraw_causes, standing}
 use Rattle.registers.specs.declared.fault.Code.{Code}
 use Rattle.walks.specs.Sheet.{row_at}
 use Rattle.walks.specs.Walk.{Gains}
+use Rattle.walks.specs.declared.cells.Cell.{Cell}
 use Rattle.bay.specs.Faults.{bay_code}
 use Rattle.bay.specs.Leg.{no_leg, noted, open_leg}
 use Rattle.bay.specs.Legs.{opened, struck}
@@ -149,6 +150,19 @@ module _ (A : Algebra) {C : Type 0} (value : C → A.Value) where
     pub table : Beyond (p.register.size * p.register.size) before.table now.table
     pub costs : now.costs ≡ costs_step before.costs answer
     pub chains : now.chains ≡ chains_step before.chains answer
+
+  -- What was done and answered, for a call on the cards and the legs alone, whatever the table and the sheets hold: the plain
+  -- bay and the legs were these before it and are those after it.
+  abbrev pub EditDone : Plain A.Value → Plain A.Value → List Leg → List Leg → Call C → Answer C → Type 0
+  EditDone p p' legs legs' call answer =
+      (table : List (Cell C)) (costs : List C) (chains : List ℕ) →
+      CallDone p p' (record { legs = legs; table = table; costs = costs; chains = chains }) (record { legs = legs'; table = table; costs = costs; chains = chains }) call answer
+
+  -- such a call is granted or refused, and a route is left to do
+  abbrev pub EditAnswer : Plain A.Value → Plain A.Value → List Leg → List Leg → Call C → Result (Option (Answer C)) BayFault → Type 0
+  EditAnswer p p' legs legs' call (Ok (Some answer)) = EditDone p p' legs legs' call answer
+  EditAnswer p p' legs legs' call (Ok None) = (call ≡ Route) × (p' ≡ p) × (legs' ≡ legs)
+  EditAnswer p p' legs legs' call (Err fault) = EditDone p p' legs legs' call (Refused fault)
 
   -- no call was made
   pub record Unmade (p p' : Plain A.Value) (before now : Desk C) : Type 0 where

@@ -8,7 +8,7 @@ use crate::fault::BayFault;
 use walks::ROW;
 
 // That there are legs, and that the table and the sheets are long enough for them, or the first cause why not.
-pub fn judge_room(
+pub(crate) fn judge_room(
     legs: usize,
     size: usize,
     cells: usize,

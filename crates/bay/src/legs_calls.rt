@@ -23,7 +23,7 @@ fn open_notes(list: &mut [Leg], count: usize)
 
 impl Legs {
     // No legs.
-    pub fn new() -> Legs
+    pub(crate) fn new() -> Legs
         ensures { booked result ≡ [] }
     {
         Legs {
@@ -33,7 +33,7 @@ impl Legs {
     }
 
     // How many legs there are.
-    pub fn len(&self) -> usize
+    pub(crate) fn len(&self) -> usize
         ensures value { result ≡ length (booked self.now) }
         ensures bound { result ≤ most_legs }
     {
@@ -48,14 +48,14 @@ impl Legs {
     }
 
     // Leg `number`, if there is one.
-    pub fn get(&self, number: usize) -> Option<Leg>
+    pub(crate) fn get(&self, number: usize) -> Option<Leg>
         ensures { MatchOption result (length (booked self.now) ≤ number) (λ leg. (number < length (booked self.now)) × (leg ≡ slice_index_or (booked self.now) number no_leg)) }
     {
         self.as_slice().get(number).copied()
     }
 
     // One leg more at the end.
-    pub fn push(&mut self, leg: Leg)
+    pub(crate) fn push(&mut self, leg: Leg)
         requires room { length (booked self.old) < most_legs }
         requires apart { leg.from ≢ leg.to }
         ensures { booked self.new ≡ booked self.old ++ leg ∷ [] }
@@ -65,7 +65,7 @@ impl Legs {
     }
 
     // Sets the note of one leg.
-    pub fn set_note(&mut self, number: usize, note: Note)
+    pub(crate) fn set_note(&mut self, number: usize, note: Note)
         requires { number < length (booked self.old) }
         ensures { booked self.new ≡ slice_set (booked self.old) number (noted note (slice_index_or (booked self.old) number no_leg)) }
     {
@@ -74,14 +74,14 @@ impl Legs {
     }
 
     // Every note becomes open.
-    pub fn open_all(&mut self)
+    pub(crate) fn open_all(&mut self)
         ensures { booked self.new ≡ opened (booked self.old) }
     {
         open_notes(&mut self.list, self.count);
     }
 
     // Takes one leg out, and later legs move down by one.
-    pub fn remove(&mut self, number: usize)
+    pub(crate) fn remove(&mut self, number: usize)
         requires { number < length (booked self.old) }
         ensures { booked self.new ≡ struck number (booked self.old) }
     {

@@ -4,7 +4,7 @@ ghost use Rattle.bay.specs.Bays.{plain};
 ghost use Rattle.bay.specs.Legs.{booked};
 ghost use Rattle.bay.specs.Plain.{step};
 ghost use Rattle.bay.specs.Routing.{Beyond};
-ghost use Rattle.bay.specs.Runs.{CallDone, Reserved, Right, RunDone, Unmade, chains_step, costs_step, route_notes};
+ghost use Rattle.bay.specs.Runs.{CallDone, EditAnswer, Reserved, Right, RunDone, Unmade, chains_step, costs_step, route_notes};
 ghost use Rattle.bay.specs.declared.calls.Call.TheVariants.{Route};
 
 use crate::bays::Bay;
@@ -84,6 +84,29 @@ impl<R: Register> Bay<R> {
         }
     }
 
+    // A call on the cards and the legs alone, with its answer, or why it is refused; none where the call is a route.
+    fn edit(&mut self, call: Call<R::Cost>) -> Result<Option<Answer<R::Cost>>, BayFault>
+        ensures { EditAnswer R.Cost.Cost.algebra R.Cost.Cost.value (plain R.Cost.Cost.algebra R.Cost.Cost.value R.Register.holds self.old) (plain R.Cost.Cost.algebra R.Cost.Cost.value R.Register.holds self.new) (booked self.old.legs) (booked self.new.legs) call result }
+    {
+        match call {
+            Call::Enter { from, to, cost } => {
+                self.enter(from, to, cost)?;
+                Ok(Some(Answer::Entered))
+            }
+            Call::Withdraw { from, to } => {
+                self.withdraw(from, to)?;
+                Ok(Some(Answer::Withdrawn))
+            }
+            Call::Book { from, to } => Ok(Some(Answer::Booked(self.book(from, to)?))),
+            Call::Strike { leg } => {
+                self.strike(leg)?;
+                Ok(Some(Answer::Struck))
+            }
+            Call::Show { leg } => Ok(Some(Answer::Shown(self.show(leg)?))),
+            Call::Route => Ok(None),
+        }
+    }
+
     // Any one call. Want of memory for what a route would write is found before it begins, and then nothing is done.
     pub fn call(
         &mut self,
@@ -95,31 +118,13 @@ impl<R: Register> Bay<R> {
     ) -> Result<Answer<R::Cost>, AllocError>
         ensures { MatchResult result (λ answer. CallDone R.Cost.Cost.algebra R.Cost.Cost.value (plain R.Cost.Cost.algebra R.Cost.Cost.value R.Register.holds self.old) (plain R.Cost.Cost.algebra R.Cost.Cost.value R.Register.holds self.new) (record { legs = booked self.old.legs; table = table.old; costs = costs.old; chains = chains.old }) (record { legs = booked self.new.legs; table = table.new; costs = costs.new; chains = chains.new }) call answer) (λ _. Unmade R.Cost.Cost.algebra R.Cost.Cost.value (plain R.Cost.Cost.algebra R.Cost.Cost.value R.Register.holds self.old) (plain R.Cost.Cost.algebra R.Cost.Cost.value R.Register.holds self.new) (record { legs = booked self.old.legs; table = table.old; costs = costs.old; chains = chains.old }) (record { legs = booked self.new.legs; table = table.new; costs = costs.new; chains = chains.new })) }
     {
-        match call {
-            Call::Enter { from, to, cost } => match self.enter(from, to, cost) {
-                Ok(()) => Ok(Answer::Entered),
-                Err(fault) => Ok(Answer::Refused(fault)),
-            },
-            Call::Withdraw { from, to } => match self.withdraw(from, to) {
-                Ok(()) => Ok(Answer::Withdrawn),
-                Err(fault) => Ok(Answer::Refused(fault)),
-            },
-            Call::Book { from, to } => match self.book(from, to) {
-                Ok(number) => Ok(Answer::Booked(number)),
-                Err(fault) => Ok(Answer::Refused(fault)),
-            },
-            Call::Strike { leg } => match self.strike(leg) {
-                Ok(()) => Ok(Answer::Struck),
-                Err(fault) => Ok(Answer::Refused(fault)),
-            },
-            Call::Show { leg } => match self.show(leg) {
-                Ok(shown) => Ok(Answer::Shown(shown)),
-                Err(fault) => Ok(Answer::Refused(fault)),
-            },
-            Call::Route => {
+        match self.edit(call) {
+            Ok(Some(answer)) => Ok(answer),
+            Ok(None) => {
                 let told = Routes::reserve(heap)?;
                 Ok(self.route_answer(told, table, costs, chains))
             }
+            Err(fault) => Ok(Answer::Refused(fault)),
         }
     }
 

@@ -3,7 +3,7 @@ use Rattle.std.proofs.Common.{sym, arith, rules}
 use lib.ListN.{length-map}
 use Rattle.bay.specs.Bays.{plain}
 use Rattle.bay.specs.Legs.{booked}
-use Rattle.bay.specs.Plain.{Plain, ends}
+use Rattle.bay.specs.Plain.{ends}
 use Rattle.bay.specs.Routing.{Desk}
 use Rattle.bay.proofs.Answering.{desk_enough, told_granted, told_loop, told_table, told_turned, was_granted, was_loop, was_turned}
 use Rattle.bay.proofs.bays.Bay.route_answer.Goals as goal
