@@ -1,7 +1,7 @@
 -- The reader over the bytes of a text: what it knows at each place.
 -- Where it waits, some allowed line goes on; where a byte is refused, none does.
-use Rattle.std.proofs.Common.{◌≡◌, ℕ, ◌+◌, ◌-◌, ◌<◌, ◌≤◌, Bool, true, false, List, [], ◌∷◌, ◌++◌, length, get_or, take, drop, pos, neg_ℤ, Some, None, Option, codes, decimal, sym, refl, ap, ◌∙◌, subst, arith}
-use Rattle.std.proofs.lemmas.List.{take_more, take_all, take-append-drop, drop-drop, get_or-drop, length-drop, length-append, length-take-le}
+use Rattle.std.proofs.Common.{◌≡◌, ℕ, ◌+◌, ◌-◌, ◌<◌, ◌≤◌, Bool, true, false, List, [], ◌∷◌, ◌++◌, length, get_or, take, drop, pos, neg_ℤ, Some, None, Option, codes, sym, refl, ap, ◌∙◌, subst, arith}
+use Rattle.std.proofs.lemmas.List.{take_more, take_all, take-append-drop, drop-drop, get_or-drop, length-drop, length-take-le}
 use Rattle.ticket.specs.Grammar.{line_text, Allowed, Coded, Fits, Unfinished, part, number_begins, code_begins, IsRead}
 use Rattle.ticket.specs.Rests.{Rest, dead, over, after_byte, fixed, letters_of, ending, closing, size_rest, code_rest, number_rest, below_zero, not_below, cost_rest, pair_end, to_rest, from_rest, kind_choice, word_end, word_rest, first_rest, line_rest, reading, cost_reading, rest_at, to_come}
 use Rattle.ticket.specs.declared.line.Kind.{Kind}
@@ -154,10 +154,11 @@ part_more text from place l m =
     ∙ take_more (drop from text) (place - from) 0 (omega (arith, length-drop from text))
     ∙ ap (λ x. take (place - from) (drop from text) ++ (x ∷ [])) (get_or-drop from text (place - from) 0 ∙ ap (λ n. get_or text n 0) f)
 
-pub run_more : (start : Rest) (text : List ℕ) (from place : ℕ) (r : Rest) → from ≤ place → place < length text → r ≡ run start (part text from place) → after_byte r (get_or text place 0) ≡ run start (part text from (place + 1))
-run_more start text from place r l m e =
-    ap (λ t. after_byte t (get_or text place 0)) e
-    ∙ sym (ap (run start) (part_more text from place l m) ∙ run_append start (part text from place) (get_or text place 0 ∷ []))
+pub run_more : (stage : Stage) (text : List ℕ) (from place : ℕ) {r t : Rest} → from ≤ place → place < length text → r ≡ run (line_rest stage) (part text from place) → t ≡ after_byte r (get_or text place 0) →
+    t ≡ run (line_rest stage) (part text from (place + 1))
+run_more stage text from place l m e f =
+    f ∙ ap (λ r. after_byte r (get_or text place 0)) e
+    ∙ sym (ap (run (line_rest stage)) (part_more text from place l m) ∙ run_append (line_rest stage) (part text from place) (get_or text place 0 ∷ []))
 
 pub part_none : (text : List ℕ) (from : ℕ) → part text from from ≡ []
 part_none text from = let e : from - from ≡ 0 = omega arith in ap (λ n. take n (drop from text)) e
@@ -201,14 +202,6 @@ coded Legs (line.Format k code) h = absurd h
 coded Legs (line.Card a b cost) h = tt
 coded Legs (line.Leg a b) h = tt
 coded Legs line.End h = tt
-
--- the places of a format line
-pub format_places : (l : Line) (from end k : ℕ) (code : List ℕ) → l ≡ line.Format k code → Coded l → end ≡ from + length (line_text l) → (from + 8 ≡ number_begins from l) × (end - 6 ≡ code_begins from l)
-format_places l from end k code e c h =
-    let d : Coded (line.Format k code) = subst Coded e c in
-    let g : end ≡ from + length (line_text (line.Format k code)) = h ∙ ap (λ x. from + length (line_text x)) e in
-    let m : end - 6 ≡ from + (9 + length (decimal k)) = omega (arith, g, d, length-append (decimal k) (32 ∷ (code ++ (41 ∷ 10 ∷ []))), length-append code (41 ∷ 10 ∷ [])) in
-    (ap (number_begins from) (sym e), m ∙ ap (code_begins from) (sym e))
 
 -- what is answered where a line ends
 pub line_ends : (stage : Stage) (text : List ℕ) (from end : ℕ) (r : Reader) → from ≤ end → end ≤ length text → to_come r ≡ run (line_rest stage) (part text from end) → r.state ≡ Over → Coded r.line × (end ≡ from + length (line_text r.line))

@@ -34,10 +34,7 @@ pub over_line : (k : Line) (bs : List ℕ) (l : Line) → run (over k) bs ≡ ov
 over_line k [] l e = (refl, cc)
 over_line k (b ∷ bs) l e = absurd (not_dead bs l e)
 
--- a byte that was read
-pub run_on : (b : ℕ) (r s : Rest) (bs : List ℕ) → run (on b r s) (b ∷ bs) ≡ run r bs
-run_on b r s bs = ap (λ t. run t bs) (cond-true (eqb b b) r (after_byte s b) (eq-eqb b b refl))
-
+-- a byte that is another one
 pub run_past : (b : ℕ) (r s : Rest) (c : ℕ) (bs : List ℕ) → (c ≡ b → ⊥) → run (on b r s) (c ∷ bs) ≡ run s (c ∷ bs)
 run_past b r s c bs apart = ap (λ t. run t bs) (cond-false (eqb c b) r (after_byte s c) (ne_eqb c b apart))
 
@@ -59,10 +56,6 @@ on_went b r s (c ∷ bs) l e = elim (cases_Bool (eqb c b)) [
 ]
 
 -- a fixed text
-pub run_fixed : (w : List ℕ) (r : Rest) (bs : List ℕ) → run (fixed w r) (w ++ bs) ≡ run r bs
-run_fixed [] r bs = refl
-run_fixed (b ∷ w) r bs = run_on b (fixed w r) dead (w ++ bs) ∙ run_fixed w r bs
-
 pub record Began (w : List ℕ) (r : Rest) (bs : List ℕ) (l : Line) : Type 0 where
   pub rest : List ℕ
   pub whole : bs ≡ w ++ rest

@@ -1,12 +1,12 @@
 -- One step of the reader inside a word or a code, where how far it has come is a variable.
 -- The other steps compute.
-use Rattle.std.proofs.Common.{◌≡◌, ℕ, zero, suc, ◌+◌, ◌-◌, ◌<◌, ◌≤◌, Bool, true, false, cond, ◌&&◌, ◌||◌, eqb, List, [], ◌∷◌, ◌++◌, length, get_or, take, drop, set, codes, sym, refl, ap, ◌∙◌, inl, inr, append_assoc, arith}
+use Rattle.std.proofs.Common.{◌≡◌, ℕ, zero, suc, ◌+◌, ◌-◌, ◌<◌, ◌≤◌, Bool, true, false, ◌&&◌, ◌||◌, eqb, List, [], ◌∷◌, ◌++◌, length, get_or, take, drop, set, codes, sym, refl, ap, ◌∙◌, inl, inr, append_assoc, arith}
 use mathlib.Core.Path.{fun_ext}
 use Rattle.std.proofs.lemmas.List.{drop_more, drop_all, take_more_set, take_all, append-nil}
-use Rattle.std.proofs.lemmas.Bool.{eq-eqb, ne_eqb, cond-true, cond-false, cases_lt, ltb-true, lt-ltb, eqb-true, and_parts, and_from, both_ways}
+use Rattle.std.proofs.lemmas.Bool.{ne_eqb, cond-true, cond-false, cases_lt, both_ways}
 use Rattle.std.proofs.lemmas.Bool.Decides.{nat_tests}
 use Rattle.ticket.specs.Signs.{digit, letter, sort_of}
-use Rattle.ticket.specs.Rests.{Rest, dead, after_byte, fixed, signs, letters_of, word_end, word_rest, kind_choice, code_rest, closing, to_come, rest_at, left, takes_letter, with_letter}
+use Rattle.ticket.specs.Rests.{Rest, dead, after_byte, fixed, signs, letters_of, word_end, word_rest, kind_choice, code_rest, closing, to_come, rest_at}
 use Rattle.ticket.specs.declared.line.Line.TheVariants as line
 use Rattle.ticket.specs.declared.reader.Reader.{Reader}
 use Rattle.ticket.specs.declared.reader.State.{State}
@@ -16,11 +16,6 @@ use Rattle.ticket.specs.declared.words.Word.{Word}
 use Rattle.ticket.specs.declared.words.Word.TheVariants.{Bay, Delay, Depth, Format, Card, Leg, End}
 
 -- a text of which `at` bytes were read
-pub fixed_goes : (w : List ℕ) (at c : ℕ) (r : Rest) → at < length w → get_or w at 0 ≡ c → after_byte (fixed (drop at w) r) c ≡ fixed (drop (at + 1) w) r
-fixed_goes w at c r l e =
-    ap (λ bs. after_byte (fixed bs r) c) (drop_more w at 0 l)
-    ∙ cond-true (eqb c (get_or w at 0)) (fixed (drop (at + 1) w) r) dead (eq-eqb _ _ (sym e))
-
 pub fixed_stops : (w : List ℕ) (at c : ℕ) (r : Rest) → at < length w → (get_or w at 0 ≡ c → ⊥) → after_byte (fixed (drop at w) r) c ≡ dead
 fixed_stops w at c r l apart =
     ap (λ bs. after_byte (fixed bs r) c) (drop_more w at 0 l)
@@ -62,15 +57,6 @@ word_after Card c s t = grind (arith, nat_tests)
 word_after Leg c s t = grind (arith, nat_tests)
 word_after End c s t = grind (arith, nat_tests)
 
-pub open_words : (w : Word) → (w ≡ End → ⊥) → dead ≡ after_byte (word_end w) 41
-open_words Bay n = refl
-open_words Delay n = refl
-open_words Depth n = refl
-open_words Format n = refl
-open_words Card n = refl
-open_words Leg n = refl
-open_words End n = absurd (n refl)
-
 -- one more sign of a code
 pub code_goes : (k at c : ℕ) (code : List ℕ) → length code ≡ 4 → at < 4 → (letter c || digit c) ≡ true → after_byte (code_rest k at code) c ≡ code_rest k (at + 1) (set code at c)
 code_goes k at c code four l fits =
@@ -95,13 +81,6 @@ code_ends k at code four l =
     let next : List ℕ → Rest = λ cs. closing (line.Format k (take at code ++ cs)) in
     ap (λ n. signs n next) e ∙ ap (λ ds. closing (line.Format k ds)) (append-nil (take at code) ∙ take_all at code (omega arith))
 
--- the sort of a sign, and its byte
-pub sort_letter : (c : ℕ) → Letter ≡ sort_of c → letter c ≡ true
-sort_letter c e = grind (arith, nat_tests)
-
-pub sort_close : (c : ℕ) → Close ≡ sort_of c → c ≡ 41
-sort_close c e = grind (arith, nat_tests)
-
 no_letter : (c : ℕ) → (sort_of c ≡ Letter → ⊥) → letter c ≡ false
 no_letter c n = grind (arith, nat_tests)
 
@@ -122,33 +101,6 @@ pub word_refuses : (r : Reader) (ls : List ℕ) (c : ℕ) → r.state ≡ InWord
 word_refuses r ls c e f l n =
     let k : r.at < length (letters_of r.word) = omega (arith, ap length f) in
     sym (ap (λ t. after_byte t c) (in_state r InWord e) ∙ word_inside r.word r.at c k n)
-
-pub word_over : (r : Reader) (w : Word) (ls : List ℕ) → r.state ≡ InWord → ls ≡ letters_of r.word → length ls ≤ r.at → r.word ≡ w → word_end w ≡ to_come r
-word_over r w ls e f l g =
-    let k : length (letters_of r.word) ≤ r.at = omega (arith, ap length f) in
-    sym (in_state r InWord e ∙ fixed_ends (letters_of r.word) r.at (word_end r.word) k ∙ ap word_end g)
-
-pub word_letter : (r : Reader) (ls : List ℕ) (c : ℕ) → r.state ≡ InWord → ls ≡ letters_of r.word → letter c ≡ true → left (takes_letter ls r.at c) (cond (takes_letter ls r.at c) (with_letter r) r) ≡ after_byte (to_come r) c
-word_letter r ls c e f h =
-    rw f (go (takes_letter (letters_of r.word) r.at c) refl)
-  where
-    w : List ℕ
-    w = letters_of r.word
-
-    whole : to_come r ≡ fixed (drop r.at w) (word_end r.word)
-    whole = in_state r InWord e
-
-    go : (t : Bool) → takes_letter w r.at c ≡ t → left t (cond t (with_letter r) r) ≡ after_byte (to_come r) c
-    go true q =
-        let l : r.at < length w = ltb-true _ _ (and_parts _ _ q).0 in
-        in_state (with_letter r) InWord e
-        ∙ sym (ap (λ t. after_byte t c) whole ∙ fixed_goes w r.at c (word_end r.word) l (eqb-true _ _ (and_parts _ _ q).1))
-    go false q = elim (cases_lt r.at (length w)) [
-      | inl l ↦ sym (ap (λ t. after_byte t c) whole ∙ fixed_stops w r.at c (word_end r.word) l
-          (λ same. both_ways _ q (and_from _ _ (lt-ltb _ _ l) (eq-eqb _ _ same))))
-      | inr l ↦ sym (ap (λ t. after_byte t c) (whole ∙ fixed_ends w r.at (word_end r.word) l)
-          ∙ word_after r.word c (λ z. grind (arith, nat_tests)) (λ z. grind (arith, nat_tests)))
-    ]
 
 -- any other sign
 pub word_stops : (r : Reader) (c : ℕ) → r.state ≡ InWord → (sort_of c ≡ Letter → ⊥) → (sort_of c ≡ Space → ⊥) → (sort_of c ≡ Close → ⊥) → dead ≡ after_byte (to_come r) c
@@ -184,7 +136,3 @@ code_refuses r c e four n m t = elim (cases_lt r.at 4) [
 
 pub code_stops_there : (r : Reader) (c : ℕ) → r.state ≡ InCode → length r.code ≡ 4 → (sort_of c ≡ Letter → ⊥) → (sort_of c ≡ Digit → ⊥) → (sort_of c ≡ Close → ⊥) → dead ≡ after_byte (to_come r) c
 code_stops_there r c e four n m t = code_refuses r c e four n m (λ l z. no_close c t z)
-
-pub code_too_short : (r : Reader) (c : ℕ) → r.state ≡ InCode → length r.code ≡ 4 → Close ≡ sort_of c → r.at < 4 → dead ≡ after_byte (to_come r) c
-code_too_short r c e four q l =
-    code_refuses r c e four (λ z. grind (arith, q ∙ z)) (λ z. grind (arith, q ∙ z)) (λ k z. omega arith)

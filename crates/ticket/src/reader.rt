@@ -36,8 +36,8 @@ pub struct Reader {
     word: Word,
     kind: Kind,
     at: usize,
+    // the number that is read, and the numbers before it
     numeral: Numeral,
-    // the numbers before it
     first: u32,
     second: u32,
     code: [u8; 4],

@@ -1,34 +1,25 @@
 -- Each byte is one step of what may come. Where the reader is at the end of a line, the bytes so far are that line;
 -- where it refuses a byte, or the text ends, the bytes before are part of one.
-use Rattle.std.proofs.Common.{◌+◌, ◌<◌, ◌≤◌, length, Ok, Err, sym, refl, ap, ◌∙◌, inl, inr, arith}
+use Rattle.std.proofs.Common.{◌+◌, length, Ok, Err, sym, refl, ap, ◌∙◌, inl, inr, arith}
 use Rattle.ticket.specs.Grammar.{part, IsRead, IsRefused}
-use Rattle.ticket.specs.Rests.{line_rest, to_come}
+use Rattle.ticket.specs.Rests.{line_rest}
 use Rattle.ticket.proofs.Runs.{run}
-use Rattle.ticket.proofs.Reading.{part_none, not_over, waiting, refused, run_more, part_all, line_ends, is_read}
+use Rattle.ticket.proofs.Reading.{not_over, part_none, waiting, refused, run_more, part_all, line_ends, is_read}
 use Rattle.ticket.proofs.Places.{one_answer}
 use Rattle.ticket.proofs.reader.read_line.Goals as goal
 
 pub loop-place-init : goal.loop-place-init
 loop-place-init c = (
-  omega arith,
-  sym (ap (run (to_come c.new-reader.result)) (part_none c.args.text.now c.args.from)),
+  c.new-reader.ensures ∙ sym (ap (run (line_rest c.args.stage)) (part_none c.args.text.now c.args.from)),
   not_over c.new-reader.result (line_rest c.args.stage) c.new-reader.ensures tt,
 )
 
 refused-here : (c : goal.Then-not-take) → IsRefused c.args.stage c.args.text.now c.args.from c.loop-place.place
 refused-here c =
-    let start = c.new-reader.ensures in
+    let now = run_more c.args.stage c.args.text.now c.args.from c.loop-place.place c.loop-place.auto.place c.loop-place-test.true c.loop-place.invariant.0 c.if-not-take.ensures in
     record {
-      before = waiting c.args.stage (part c.args.text.now c.args.from c.loop-place.place) c.loop-place.reader
-          (c.loop-place.invariant.1 ∙ ap (λ s. run s (part c.args.text.now c.args.from c.loop-place.place)) start) c.loop-place.invariant.2;
-      here = inr (
-        c.loop-place.invariant.0,
-        c.loop-place-test.true,
-        refused c.args.stage (part c.args.text.now c.args.from (c.loop-place.place + 1))
-            (sym (c.if-not-take.ensures
-            ∙ run_more (to_come c.new-reader.result) c.args.text.now c.args.from c.loop-place.place (to_come c.loop-place.reader) c.loop-place.invariant.0 c.loop-place-test.true c.loop-place.invariant.1
-            ∙ ap (λ s. run s (part c.args.text.now c.args.from (c.loop-place.place + 1))) start)),
-      );
+      before = waiting c.args.stage (part c.args.text.now c.args.from c.loop-place.place) c.loop-place.reader c.loop-place.invariant.0 c.loop-place.invariant.1;
+      here = inr (c.loop-place.auto.place, c.loop-place-test.true, refused c.args.stage (part c.args.text.now c.args.from (c.loop-place.place + 1)) (sym now));
     }
 
 pub returns-then-not-take : goal.returns-then-not-take
@@ -39,22 +30,13 @@ returns-then-not-take c = record {
 
 pub placed-requires : goal.placed-requires
 placed-requires c =
-    let l : c.loop-place.place < length c.args.text.now = c.loop-place-test.true in
-    let m : c.args.from ≤ c.loop-place.place = c.loop-place.invariant.0 in
-    line_ends c.args.stage c.args.text.now c.args.from (c.loop-place.place + 1) c.take.new.self (omega arith) (omega arith)
-    (c.if-not-take.ensures
-    ∙ run_more (to_come c.new-reader.result) c.args.text.now c.args.from c.loop-place.place (to_come c.loop-place.reader) c.loop-place.invariant.0 c.loop-place-test.true c.loop-place.invariant.1
-    ∙ ap (λ s. run s (part c.args.text.now c.args.from (c.loop-place.place + 1))) c.new-reader.ensures)
-    c.in-Over.is
+    let now = run_more c.args.stage c.args.text.now c.args.from c.loop-place.place c.loop-place.auto.place c.loop-place-test.true c.loop-place.invariant.0 c.if-not-take.ensures in
+    line_ends c.args.stage c.args.text.now c.args.from (c.loop-place.place + 1) c.take.new.self (omega (arith, c.loop-place.auto.place)) (omega (arith, c.loop-place-test.true)) now c.in-Over.is
 
 read_here : (c : goal.After-placed) → IsRead c.args.stage c.args.text.now c.args.from c.placed.result
 read_here c =
-    let l : c.loop-place.place < length c.args.text.now = c.loop-place-test.true in
-    let m : c.args.from ≤ c.loop-place.place = c.loop-place.invariant.0 in
-    is_read c.args.stage c.args.text.now c.args.from (c.loop-place.place + 1) c.take.new.self c.placed.result (omega arith) (omega arith)
-    (c.if-not-take.ensures
-    ∙ run_more (to_come c.new-reader.result) c.args.text.now c.args.from c.loop-place.place (to_come c.loop-place.reader) c.loop-place.invariant.0 c.loop-place-test.true c.loop-place.invariant.1
-    ∙ ap (λ s. run s (part c.args.text.now c.args.from (c.loop-place.place + 1))) c.new-reader.ensures)
+    let now = run_more c.args.stage c.args.text.now c.args.from c.loop-place.place c.loop-place.auto.place c.loop-place-test.true c.loop-place.invariant.0 c.if-not-take.ensures in
+    is_read c.args.stage c.args.text.now c.args.from (c.loop-place.place + 1) c.take.new.self c.placed.result (omega (arith, c.loop-place.auto.place)) (omega (arith, c.loop-place-test.true)) now
     c.in-Over.is c.placed.ensures.value c.placed.ensures.number c.placed.ensures.code
 
 pub returns-in-Over : goal.returns-in-Over
@@ -64,21 +46,15 @@ returns-in-Over c = record {
 }
 
 pub loop-place-preserved : goal.loop-place-preserved
-loop-place-preserved c =
-    let m : c.args.from ≤ c.loop-place.place = c.loop-place.invariant.0 in (
-      omega arith,
-      c.if-not-take.ensures
-          ∙ run_more (to_come c.new-reader.result) c.args.text.now c.args.from c.loop-place.place (to_come c.loop-place.reader) c.loop-place.invariant.0 c.loop-place-test.true c.loop-place.invariant.1,
-      c.in_default.not-Over,
-    )
+loop-place-preserved c = (
+  run_more c.args.stage c.args.text.now c.args.from c.loop-place.place c.loop-place.auto.place c.loop-place-test.true c.loop-place.invariant.0 c.if-not-take.ensures,
+  c.in_default.not-Over,
+)
 
 text-ends : (c : goal.After-loop-place) → IsRefused c.args.stage c.args.text.now c.args.from (length c.args.text.now)
 text-ends c = record {
   before = waiting c.args.stage (part c.args.text.now c.args.from (length c.args.text.now)) c.loop-place.reader
-      (c.loop-place.invariant.1
-      ∙ ap (λ s. run s (part c.args.text.now c.args.from c.loop-place.place)) c.new-reader.ensures
-      ∙ ap (run (line_rest c.args.stage)) (part_all c.args.text.now c.args.from c.loop-place.place c.loop-place-test.false))
-      c.loop-place.invariant.2;
+      (c.loop-place.invariant.0 ∙ ap (run (line_rest c.args.stage)) (part_all c.args.text.now c.args.from c.loop-place.place c.loop-place-test.false)) c.loop-place.invariant.1;
   here = inl refl;
 }
 

@@ -1,13 +1,10 @@
 -- At each place the reader knows what may come after the bytes so far, and it is not at the end of a line.
-use Rattle.std.proofs.Common.{◌≡◌, ◌≤◌}
+use Rattle.std.proofs.Common.{◌≡◌}
 use Rattle.ticket.specs.Grammar.{part}
-use Rattle.ticket.specs.Rests.{to_come}
+use Rattle.ticket.specs.Rests.{line_rest, to_come}
 use Rattle.ticket.specs.declared.reader.State.TheVariants.{Over}
 use Rattle.ticket.proofs.Runs.{run}
 use Rattle.ticket.proofs.reader.read_line.Given as goal
 
 abbrev pub invariant-loop-place : goal.invariant-loop-place
-invariant-loop-place l =
-    (l.from ≤ l.place)
-    × (to_come l.reader ≡ run (to_come l.initial.reader) (part l.text l.from l.place))
-    × (l.reader.state ≡ Over → ⊥)
+invariant-loop-place l = (to_come l.reader ≡ run (line_rest l.fn.stage) (part l.text l.from l.place)) × (l.reader.state ≡ Over → ⊥)

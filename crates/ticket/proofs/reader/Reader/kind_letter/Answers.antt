@@ -1,14 +1,8 @@
 -- After two letters the third chooses the kind.
 use Rattle.std.proofs.Common.{◌≡◌, subst, arith, rules}
-use Rattle.ticket.specs.Rests.{after_byte, to_come, kind_choice, dead, word_rest}
+use Rattle.ticket.specs.Rests.{after_byte, to_come, kind_choice, word_rest}
 use Rattle.ticket.proofs.Steps.{kind_over}
-use Rattle.std.proofs.lemmas.Bool.Decides.{nat_tests}
 use Rattle.ticket.proofs.reader.Reader.kind_letter.Goals as goal
-
-pub returns-in_default : goal.returns-in_default
-returns-in_default c =
-    let e : kind_choice ≡ to_come c.args.self.now = kind_over c.args.self.now c.requires.at (omega arith) in
-    subst (λ t. dead ≡ after_byte t c.args.sign) e (grind (arith, nat_tests))
 
 pub returns : goal.returns
 returns c =
