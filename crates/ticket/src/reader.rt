@@ -1,7 +1,7 @@
 // The line reader: it takes the bytes of a line one by one, and knows at each what may still come.
 ghost use Rattle.std.specs.Prelude.{◌≡◌, ◌+◌, true, false, ◌||◌, length, None, if◌then◌else◌};
 ghost use Rattle.ticket.specs.Signs.{digit, letter};
-ghost use Rattle.ticket.specs.declared.reader.State.TheVariants.{InWord, InKind, PairEnd, InCode};
+ghost use Rattle.ticket.specs.declared.reader.State.TheVariants.{InWord, InKind, PairEnd, InCode, Ending};
 ghost use Rattle.ticket.specs.Grammar.{line_text, Coded, number_begins, code_begins, ReadLine, Alone};
 ghost use Rattle.ticket.specs.Rests.{line_rest, to_come, left, after_byte, takes_letter, with_letter};
 
@@ -73,12 +73,20 @@ impl Reader {
         self.numeral = Numeral::new();
     }
 
+    // After the last sign of a line.
+    fn finish(&mut self, line: Line)
+        ensures { self.new ≡ record self.old { line = line; state = Ending } }
+    {
+        self.line = line;
+        self.state = State::Ending;
+    }
+
     // One more letter of these.
     fn letter(&mut self, letters: &[u8], sign: u8) -> bool
         ensures fits { result ≡ takes_letter letters.now self.old.at sign }
         ensures exit { self.new ≡ (if result then with_letter self.old else self.old) }
     {
-        if self.at < letters.len() && letters[self.at] == sign {
+        if letters.get(self.at) == Some(&sign) {
             self.at += 1;
             return true;
         }
@@ -97,28 +105,20 @@ impl Reader {
             Word::Bay => {
                 self.at = 0;
                 self.state = State::InKind;
-                true
             }
             Word::Delay => {
                 self.kind = Kind::Delay;
                 self.begin(State::Size);
-                true
             }
             Word::Depth => {
                 self.kind = Kind::Depth;
                 self.begin(State::Size);
-                true
             }
-            Word::Format => {
-                self.begin(State::Number);
-                true
-            }
-            Word::Card | Word::Leg => {
-                self.state = State::Pair;
-                true
-            }
-            Word::End => false,
+            Word::Format => self.begin(State::Number),
+            Word::Card | Word::Leg => self.state = State::Pair,
+            Word::End => return false,
         }
+        true
     }
 
     // The closing sign after a word.
@@ -131,8 +131,7 @@ impl Reader {
         }
         match self.word {
             Word::End => {
-                self.line = Line::End;
-                self.state = State::Ending;
+                self.finish(Line::End);
                 true
             }
             _ => false,
@@ -165,11 +164,10 @@ impl Reader {
     {
         match (self.word, sign) {
             (Word::Leg, b')') => {
-                self.line = Line::Leg {
+                self.finish(Line::Leg {
                     from: self.first as usize,
                     to: self.second as usize,
-                };
-                self.state = State::Ending;
+                });
                 true
             }
             (Word::Leg, _) => false,
@@ -225,38 +223,37 @@ impl Reader {
                 self.numeral.digit(sign)
             }
             (State::Size, Sort::Close) => {
-                let Some(value) = self.numeral.value else {
+                let Some(size) = self.numeral.value else {
                     return false;
                 };
-                self.line = Line::Bay {
+                self.finish(Line::Bay {
                     kind: self.kind,
-                    size: value as usize,
-                };
-                self.state = State::Ending;
+                    size: size as usize,
+                });
                 true
             }
             (State::Number, Sort::Space) => {
-                let Some(value) = self.numeral.value else {
+                let Some(number) = self.numeral.value else {
                     return false;
                 };
-                self.first = value;
+                self.first = number;
                 self.at = 0;
                 self.state = State::InCode;
                 true
             }
             (State::From, Sort::Space) => {
-                let Some(value) = self.numeral.value else {
+                let Some(from) = self.numeral.value else {
                     return false;
                 };
-                self.first = value;
+                self.first = from;
                 self.begin(State::To);
                 true
             }
             (State::To, Sort::Close) => {
-                let Some(value) = self.numeral.value else {
+                let Some(to) = self.numeral.value else {
                     return false;
                 };
-                self.second = value;
+                self.second = to;
                 self.state = State::PairEnd;
                 true
             }
@@ -270,25 +267,23 @@ impl Reader {
                 self.numeral.digit(sign)
             }
             (State::Cost, Sort::Close) => {
-                let Some(value) = self.numeral.value else {
+                let Some(size) = self.numeral.value else {
                     return false;
                 };
-                let size = value as i32;
-                self.line = Line::Card {
+                let size = size as i32;
+                self.finish(Line::Card {
                     from: self.first as usize,
                     to: self.second as usize,
                     cost: if self.numeral.minus { -size } else { size },
-                };
-                self.state = State::Ending;
+                });
                 true
             }
             (State::InCode, Sort::Letter | Sort::Digit) => self.code_sign(sign),
             (State::InCode, Sort::Close) if self.at >= 4 => {
-                self.line = Line::Format {
+                self.finish(Line::Format {
                     number: self.first as usize,
                     code: self.code,
-                };
-                self.state = State::Ending;
+                });
                 true
             }
             (State::Ending, Sort::LineEnd) => {
