@@ -1,8 +1,8 @@
 // Cases that are known to be hard, and refusals of the bay.
 use crate::kind::Kind;
-use crate::route::{Card, Job, repeat, route_both};
+use crate::route::{Card, Job, route_both};
 use bay::{Bay, BayFault, Ends, Note};
-use costs::{Cost, Delay, Depth};
+use costs::{Delay, Depth};
 use lent::Matrix;
 use registers::{Layer, Register};
 use std::alloc::{AllocError, Global};
@@ -16,7 +16,7 @@ fn leg(from: usize, to: usize) -> Ends {
     Ends { from, to }
 }
 
-fn show<'a, C: Cost + Kind>(
+fn show<'a, C: Kind>(
     rt: &HostRuntime,
     name: &str,
     n: usize,
@@ -126,12 +126,9 @@ fn small(rt: &HostRuntime) -> anyhow::Result<()> {
 fn complete(heap: Global, along: i32, elsewhere: i32) -> Result<Vec<Card>, AllocError> {
     let mut cards = Vec::new(heap);
     for from in 0..64usize {
-        for to in 0..64usize {
-            if to == from + 1 {
-                cards.push(card(from, to, along))?;
-            } else if to != from {
-                cards.push(card(from, to, elsewhere))?;
-            }
+        for to in (0..64).filter(|to| *to != from) {
+            let number = if to == from + 1 { along } else { elsewhere };
+            cards.push(card(from, to, number))?;
         }
     }
     Ok(cards)
@@ -143,25 +140,13 @@ fn large(rt: &HostRuntime) -> anyhow::Result<()> {
         rt,
         "a long way round",
         64,
-        flat.as_slice(),
+        &flat,
         &[leg(0, 63), leg(63, 0), leg(60, 63)],
     )?;
     let steep = complete(rt.alloc(), -1_000_000, 1_000_000)?;
-    show::<Delay>(
-        rt,
-        "a loop of most formats",
-        64,
-        steep.as_slice(),
-        &[leg(0, 63)],
-    )?;
+    show::<Delay>(rt, "a loop of most formats", 64, &steep, &[leg(0, 63)])?;
     let deep = complete(rt.alloc(), 16, 15)?;
-    show::<Depth>(
-        rt,
-        "a long deep way",
-        64,
-        deep.as_slice(),
-        &[leg(0, 63), leg(5, 9)],
-    )
+    show::<Depth>(rt, "a long deep way", 64, &deep, &[leg(0, 63), leg(5, 9)])
 }
 
 fn print_fault(rt: &HostRuntime, what: &str, fault: BayFault) -> anyhow::Result<()> {
@@ -205,18 +190,10 @@ fn route_in<R: Register<Cost = Delay>>(
     bytes: usize,
 ) -> anyhow::Result<()> {
     let heap = rt.alloc();
-    let mut table = repeat(heap, NOTHING, cells)?;
-    let mut costs = repeat(heap, Delay { lines: 0 }, entries)?;
-    let mut chains = repeat(heap, 0, bytes)?;
-    print_answer(
-        rt,
-        what,
-        bay.route(
-            table.as_mut_slice(),
-            costs.as_mut_slice(),
-            chains.as_mut_slice(),
-        ),
-    )
+    let mut table = vec![in heap; NOTHING; cells]?;
+    let mut costs = vec![in heap; Delay { lines: 0 }; entries]?;
+    let mut chains = vec![in heap; 0; bytes]?;
+    print_answer(rt, what, bay.route(&mut table, &mut costs, &mut chains))
 }
 
 // 33 legs over a register of three formats, and routes with too little room.

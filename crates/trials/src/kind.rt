@@ -1,8 +1,8 @@
 // The cost kinds as plain numbers, so that one text serves for both.
 use crate::dice::Dice;
-use costs::{Delay, Depth};
+use costs::{Cost, Delay, Depth};
 
-pub trait Kind {
+pub trait Kind: Cost {
     fn of(number: i32) -> Self;
 
     fn number(self) -> i32;

@@ -1,7 +1,7 @@
 // Plays pseudo-random calls on a register, and prints every tenth with a checksum over all so far.
 use crate::dice::Dice;
 use costs::Delay;
-use registers::{Bar, Register, RegisterFault};
+use registers::{Bar, Code, Register, RegisterFault};
 use std::alloc::{AllocError, Global};
 use std::fmt;
 
@@ -14,9 +14,7 @@ impl fmt::Display for Change {
         match self.0 {
             Ok(()) => write!(f, "ok"),
             Err(fault) => {
-                let code = fault.code();
-                let number = code.number;
-                let part = code.part;
+                let Code { number, part, .. } = fault.code();
                 write!(f, "{number}.{part}")
             }
         }
@@ -31,9 +29,9 @@ struct Checksum {
 
 impl Checksum {
     fn add(&mut self, text: &str) {
-        for byte in text.as_bytes() {
-            self.value = (self.value ^ u32::from(*byte)).wrapping_mul(16_777_619);
-        }
+        self.value = text.bytes().fold(self.value, |value, byte| {
+            (value ^ u32::from(byte)).wrapping_mul(16_777_619)
+        });
     }
 }
 

@@ -3,7 +3,7 @@ use crate::dice::Dice;
 use crate::kind::Kind;
 use crate::route::{Card, Job, route_both};
 use bay::Ends;
-use costs::{Cost, Delay, Depth};
+use costs::{Delay, Depth};
 use std::alloc::{AllocError, Global};
 
 // Cards for some pairs, from one in six to all.
@@ -38,14 +38,14 @@ fn draw_legs(heap: Global, dice: &mut Dice, n: usize) -> Result<Vec<Ends>, Alloc
     Ok(legs)
 }
 
-fn trial<C: Cost + Kind>(rt: &HostRuntime, name: &str, dice: &mut Dice) -> anyhow::Result<()> {
+fn trial<C: Kind>(rt: &HostRuntime, name: &str, dice: &mut Dice) -> anyhow::Result<()> {
     let n = dice.below(6).saturating_add(2);
     let cards = draw_cards::<C>(rt.alloc(), dice, n)?;
     let legs = draw_legs(rt.alloc(), dice, n)?;
     let job = Job {
         n,
-        cards: cards.as_slice(),
-        legs: legs.as_slice(),
+        cards: &cards,
+        legs: &legs,
         chains: false,
     };
     route_both::<C>(rt, name, &job)

@@ -1,7 +1,6 @@
 // Routes legs over the same cards in a matrix and in a list, and checks what the bay wrote against the cards.
 use crate::kind::Kind;
-use bay::{Bay, BayFault, Ends, Note};
-use costs::Cost;
+use bay::{Bay, BayFault, Ends, Leg, Note};
 use lent::{Entry, List, Matrix};
 use registers::Register;
 use std::alloc::{AllocError, Global};
@@ -34,221 +33,172 @@ struct Sheets<C> {
     chains: Vec<u8>,
 }
 
-// The item so many times.
-pub fn repeat<T: Copy>(heap: Global, item: T, count: usize) -> Result<Vec<T>, AllocError> {
-    let mut items = Vec::new(heap);
-    for _ in 0..count {
-        items.push(item)?;
+impl<C: Kind> Sheets<C> {
+    fn new(heap: Global, job: &Job) -> Result<Sheets<C>, AllocError> {
+        let junk = Cell {
+            card: Some(C::of(3)),
+            least: Some(C::of(-7)),
+        };
+        let rows = job.legs.len().saturating_add(1);
+        Ok(Sheets {
+            table: vec![in heap; junk; job.n.saturating_mul(job.n).saturating_add(2)]?,
+            costs: vec![in heap; C::of(11); rows]?,
+            chains: vec![in heap; JUNK; rows.saturating_mul(ROW)]?,
+        })
     }
-    Ok(items)
-}
 
-fn new_sheets<C: Cost + Kind>(heap: Global, job: &Job) -> Result<Sheets<C>, AllocError> {
-    let junk = Cell {
-        card: Some(C::of(3)),
-        least: Some(C::of(-7)),
-    };
-    let rows = job.legs.len().saturating_add(1);
-    Ok(Sheets {
-        table: repeat(heap, junk, job.n.saturating_mul(job.n).saturating_add(2))?,
-        costs: repeat(heap, C::of(11), rows)?,
-        chains: repeat(heap, JUNK, rows.saturating_mul(ROW))?,
-    })
-}
-
-// The formats of row k.
-fn formats(heap: Global, chains: &[u8], k: usize) -> Result<Vec<usize>, AllocError> {
-    let at = k.saturating_mul(ROW);
-    let count = chains.get(at).copied().unwrap_or(0) as usize;
-    let mut row = Vec::new(heap);
-    for format in chains.iter().skip(at.saturating_add(1)).take(count) {
-        row.push(*format as usize)?;
+    // Whether the sheets are as they were, from these rows and entries on.
+    fn is_as_found(&self, rows: usize, entries: usize) -> bool {
+        self.chains
+            .chunks(ROW)
+            .skip(rows)
+            .all(|row| row.iter().all(|byte| *byte == JUNK))
+            && self
+                .costs
+                .iter()
+                .skip(entries)
+                .all(|cost| cost.number() == C::of(11).number())
     }
-    Ok(row)
 }
 
-// Whether row k holds 255 behind so many formats.
-fn is_filled(chains: &[u8], k: usize, count: usize) -> bool {
-    let used = count.saturating_add(1);
-    let behind = k.saturating_mul(ROW).saturating_add(used);
-    for byte in chains.iter().skip(behind).take(ROW.saturating_sub(used)) {
-        if *byte != 255 {
-            return false;
-        }
+// The formats of a row, and what is behind them; none where the row is too short for its count.
+fn split_row(row: &[u8]) -> Option<(&[u8], &[u8])> {
+    let (count, bytes) = row.split_first()?;
+    bytes.split_at_checked(usize::from(*count))
+}
+
+// The formats of a row.
+fn formats(row: &[u8]) -> &[u8] {
+    match split_row(row) {
+        Some((formats, _)) => formats,
+        None => &[],
     }
-    true
 }
 
-// Whether the sheets are as they were, from these rows and entries on.
-fn is_as_found<C: Cost + Kind>(sheets: &Sheets<C>, rows: usize, entries: usize) -> bool {
-    for byte in sheets
-        .chains
-        .as_slice()
+// Whether all that is behind the formats of a row is 255.
+fn is_filled(behind: &[u8]) -> bool {
+    behind.iter().all(|byte| *byte == 255)
+}
+
+fn is_without_repeats(formats: &[u8]) -> bool {
+    formats
         .iter()
-        .skip(rows.saturating_mul(ROW))
-    {
-        if *byte != JUNK {
-            return false;
-        }
-    }
-    for cost in sheets.costs.as_slice().iter().skip(entries) {
-        if cost.number() != C::of(11).number() {
-            return false;
-        }
-    }
-    true
-}
-
-fn is_without_repeats(formats: &[usize]) -> bool {
-    for (i, a) in formats.iter().enumerate() {
-        for b in formats.iter().skip(i.saturating_add(1)) {
-            if *a == *b {
-                return false;
-            }
-        }
-    }
-    true
+        .enumerate()
+        .all(|(i, a)| formats.iter().take(i).all(|b| *a != *b))
 }
 
 // What the cards along a walk come to; none where one does not stand.
-fn walk_number<C: Cost + Kind, R: Register<Cost = C>>(
-    register: &R,
-    formats: &[usize],
-) -> Option<i32> {
-    let mut number = None;
-    for (from, to) in formats.iter().zip(formats.iter().skip(1)) {
-        let Some(card) = register.card(*from, *to) else {
-            return None;
-        };
-        number = match number {
-            Some(so_far) => Some(C::combined(so_far, card.number())),
-            None => Some(card.number()),
-        };
-    }
-    number
+fn walk_number<C: Kind, R: Register<Cost = C>>(register: &R, formats: &[u8]) -> Option<i32> {
+    formats
+        .iter()
+        .zip(formats.iter().skip(1))
+        .try_fold(C::neutral(), |so_far, (from, to)| {
+            let card = register.card(usize::from(*from), usize::from(*to))?;
+            Some(C::combined(so_far, card.number()))
+        })
 }
 
 // Whether the formats are a chain for the leg at this number, or there are none and the number says so.
-fn is_right<C: Cost + Kind, R: Register<Cost = C>>(
+fn is_right<C: Kind, R: Register<Cost = C>>(
     register: &R,
     leg: Ends,
-    formats: &[usize],
+    formats: &[u8],
     number: i32,
 ) -> bool {
-    if formats.is_empty() {
-        return number == C::neutral();
-    }
-    formats.first().copied() == Some(leg.from)
-        && formats.last().copied() == Some(leg.to)
-        && is_without_repeats(formats)
-        && walk_number(register, formats) == Some(number)
-}
-
-// Whether two chains are the same from these places on.
-fn is_same_from(a: &[usize], i: usize, b: &[usize], j: usize) -> bool {
-    if a.len().saturating_sub(i) != b.len().saturating_sub(j) {
-        return false;
-    }
-    for (x, y) in a.iter().skip(i).zip(b.iter().skip(j)) {
-        if *x != *y {
-            return false;
+    match formats {
+        [] => number == C::neutral(),
+        [_] => false,
+        [first, .., last] => {
+            usize::from(*first) == leg.from
+                && usize::from(*last) == leg.to
+                && is_without_repeats(formats)
+                && walk_number(register, formats) == Some(number)
         }
     }
-    true
 }
 
-// Whether two chains are the same from wherever they meet.
-fn is_in_step(a: &[usize], b: &[usize]) -> bool {
-    for (i, x) in a.iter().enumerate() {
-        for (j, y) in b.iter().enumerate() {
-            if *x == *y && !is_same_from(a, i, b, j) {
-                return false;
-            }
-        }
-    }
-    true
+// Whether two chains without repeats are the same from where they meet.
+fn is_in_step(a: &[u8], b: &[u8]) -> bool {
+    a.iter().enumerate().all(|(i, x)| {
+        b.iter()
+            .position(|y| *x == *y)
+            .is_none_or(|j| a.get(i..) == b.get(j..))
+    })
 }
 
 // Whether the chains to one destination agree.
-fn is_agreed(heap: Global, chains: &[u8], legs: &[Ends]) -> Result<bool, AllocError> {
-    for (k, leg) in legs.iter().enumerate() {
-        let one = formats(heap, chains, k)?;
-        for (l, other) in legs.iter().enumerate() {
-            let two = formats(heap, chains, l)?;
-            if leg.to == other.to && !is_in_step(one.as_slice(), two.as_slice()) {
-                return Ok(false);
-            }
-        }
-    }
-    Ok(true)
+fn is_agreed<C: Kind>(legs: &[Ends], sheets: &Sheets<C>) -> bool {
+    legs.iter().zip(sheets.chains.chunks(ROW)).all(|(leg, one)| {
+        legs.iter().zip(sheets.chains.chunks(ROW)).all(|(other, two)| {
+            leg.to != other.to || is_in_step(formats(one), formats(two))
+        })
+    })
 }
 
 // Whether every leg has what it must.
-fn is_granted<C: Cost + Kind, R: Register<Cost = C>>(
-    heap: Global,
+fn is_granted<C: Kind, R: Register<Cost = C>>(
     register: &R,
     legs: &[Ends],
     sheets: &Sheets<C>,
-) -> Result<bool, AllocError> {
-    let chains = sheets.chains.as_slice();
-    for (k, (leg, cost)) in legs.iter().zip(sheets.costs.as_slice().iter()).enumerate() {
-        let row = formats(heap, chains, k)?;
-        if !is_right(register, *leg, row.as_slice(), cost.number())
-            || !is_filled(chains, k, row.len())
-        {
-            return Ok(false);
-        }
-    }
-    Ok(is_as_found(sheets, legs.len(), legs.len()) && is_agreed(heap, chains, legs)?)
+) -> bool {
+    legs.iter()
+        .zip(sheets.costs.iter())
+        .zip(sheets.chains.chunks(ROW))
+        .all(|((leg, cost), row)| {
+            split_row(row).is_some_and(|(formats, behind)| {
+                is_right(register, *leg, formats, cost.number()) && is_filled(behind)
+            })
+        })
+        && sheets.is_as_found(legs.len(), legs.len())
+        && is_agreed(legs, sheets)
 }
 
 // Whether row 0 is a loop that gains.
-fn is_loop<C: Cost + Kind, R: Register<Cost = C>>(
-    heap: Global,
-    register: &R,
-    sheets: &Sheets<C>,
-) -> Result<bool, AllocError> {
-    let chains = sheets.chains.as_slice();
-    let mut row = formats(heap, chains, 0)?;
-    let count = row.len();
-    let gains = walk_number(register, row.as_slice()).unwrap_or(0) < 0;
-    let end = row.pop();
-    Ok(
-        gains
-            && end == row.as_slice().first().copied()
-            && is_without_repeats(row.as_slice())
-            && is_filled(chains, 0, count)
-            && is_as_found(sheets, 1, 0),
-    )
+fn is_loop<C: Kind, R: Register<Cost = C>>(register: &R, sheets: &Sheets<C>) -> bool {
+    let Some((formats, behind)) = sheets.chains.chunks(ROW).next().and_then(split_row) else {
+        return false;
+    };
+    let Some((end, once)) = formats.split_last() else {
+        return false;
+    };
+    once.first() == Some(end)
+        && is_without_repeats(once)
+        && walk_number(register, formats).is_some_and(|number| number < 0)
+        && is_filled(behind)
+        && sheets.is_as_found(1, 0)
 }
 
-// Whether the notes say what the rows do; open where no chains are asked for.
-fn is_noted<C: Cost + Kind, R: Register<Cost = C>>(
+// The note of a leg after a route that wrote these formats.
+fn note(formats: &[u8]) -> Note {
+    match formats.len() {
+        0 => Note::NoChain,
+        count => Note::Chain(count),
+    }
+}
+
+// Whether the legs are shown with what the rows say; open where no chains are asked for.
+fn is_noted<C: Kind, R: Register<Cost = C>>(
     bay: &Bay<R>,
     legs: &[Ends],
-    chains: &[u8],
+    sheets: &Sheets<C>,
     open: bool,
 ) -> bool {
-    for (k, leg) in legs.iter().enumerate() {
-        let Ok(shown) = bay.show(k) else {
-            return false;
-        };
-        let count = chains.get(k.saturating_mul(ROW)).copied().unwrap_or(0) as usize;
-        let noted = match shown.note {
-            Note::Open => open,
-            Note::NoChain => !open && count == 0,
-            Note::Chain(formats) => !open && count > 0 && formats == count,
-        };
-        if !noted || shown.from != leg.from || shown.to != leg.to {
-            return false;
-        }
-    }
-    true
+    legs.iter()
+        .zip(sheets.chains.chunks(ROW))
+        .enumerate()
+        .all(|(k, (leg, row))| {
+            bay.show(k)
+                == Ok(Leg {
+                    from: leg.from,
+                    to: leg.to,
+                    note: if open { Note::Open } else { note(formats(row)) },
+                })
+        })
 }
 
-fn print_chain(rt: &HostRuntime, row: &[usize]) -> anyhow::Result<()> {
+fn print_chain(rt: &HostRuntime, formats: &[u8]) -> anyhow::Result<()> {
     print!(rt; " by")?;
-    for format in row {
+    for format in formats {
         print!(rt; " {format}")?;
     }
     print!(rt; ";")?;
@@ -256,25 +206,20 @@ fn print_chain(rt: &HostRuntime, row: &[usize]) -> anyhow::Result<()> {
 }
 
 // The cost of each leg, or none.
-fn print_legs<C: Cost + Kind>(
-    rt: &HostRuntime,
-    job: &Job,
-    sheets: &Sheets<C>,
-) -> anyhow::Result<()> {
-    for (k, (_, cost)) in job
-        .legs
+fn print_legs<C: Kind>(rt: &HostRuntime, job: &Job, sheets: &Sheets<C>) -> anyhow::Result<()> {
+    for (cost, row) in sheets
+        .costs
         .iter()
-        .zip(sheets.costs.as_slice().iter())
-        .enumerate()
+        .zip(sheets.chains.chunks(ROW))
+        .take(job.legs.len())
     {
-        let row = formats(rt.alloc(), sheets.chains.as_slice(), k)?;
-        if row.is_empty() {
+        let formats = formats(row);
+        if formats.is_empty() {
             print!(rt; " none")?;
         } else {
-            let number = cost.number();
-            print!(rt; " {number}")?;
+            print!(rt; " {}", cost.number())?;
             if job.chains {
-                print_chain(rt, row.as_slice())?;
+                print_chain(rt, formats)?;
             }
         }
     }
@@ -283,60 +228,43 @@ fn print_legs<C: Cost + Kind>(
 }
 
 // Enters the cards and books the legs; whether all is granted.
-fn set_up<C: Cost + Kind, R: Register<Cost = C>>(bay: &mut Bay<R>, job: &Job) -> bool {
-    for card in job.cards {
-        if bay.enter(card.from, card.to, C::of(card.number)).is_err() {
-            return false;
-        }
-    }
-    for (k, leg) in job.legs.iter().enumerate() {
-        match bay.book(leg.from, leg.to) {
-            Ok(number) if number == k => {}
-            _ => return false,
-        }
-    }
-    true
+fn set_up<C: Kind, R: Register<Cost = C>>(bay: &mut Bay<R>, job: &Job) -> bool {
+    job.cards.iter().all(|card| bay.enter(card.from, card.to, C::of(card.number)).is_ok())
+        && job
+            .legs
+            .iter()
+            .enumerate()
+            .all(|(k, leg)| bay.book(leg.from, leg.to) == Ok(k))
 }
 
 // Does a job over an empty register, and prints what came of it, or `bad`.
-fn settle<C: Cost + Kind, R: Register<Cost = C> + Drop>(
+fn settle<C: Kind, R: Register<Cost = C> + Drop>(
     rt: &HostRuntime,
     register: R,
     job: &Job,
 ) -> anyhow::Result<()> {
-    let heap = rt.alloc();
     let mut bay = Bay::new(register);
     let ready = set_up(&mut bay, job);
-    let mut sheets = new_sheets::<C>(heap, job)?;
-    let answer = bay.route(
-        sheets.table.as_mut_slice(),
-        sheets.costs.as_mut_slice(),
-        sheets.chains.as_mut_slice(),
-    );
-    let noted = ready && is_noted(&bay, job.legs, sheets.chains.as_slice(), answer.is_err());
+    let mut sheets = Sheets::<C>::new(rt.alloc(), job)?;
+    let answer = bay.route(&mut sheets.table, &mut sheets.costs, &mut sheets.chains);
+    let noted = ready && is_noted(&bay, job.legs, &sheets, answer.is_err());
     let register = bay.into_register();
     match answer {
-        Ok(count)
-            if noted
-                && count == job.legs.len()
-                && is_granted(heap, &register, job.legs, &sheets)? => {
-            print_legs(rt, job, &sheets)?;
-        }
-        Err(BayFault::Loop) if noted && is_loop(heap, &register, &sheets)? => println!(rt;
-            " loop"
-        )?,
+        Ok(count) if noted && count == job.legs.len() && is_granted(&register, job.legs, &sheets) =>
+            print_legs(rt, job, &sheets)?,
+        Err(BayFault::Loop) if noted && is_loop(&register, &sheets) => println!(rt; " loop")?,
         _ => println!(rt; " bad")?,
     }
     Ok(())
 }
 
 // Does a job over a matrix, and over a list with an entry for each card.
-pub fn route_both<C: Cost + Kind>(rt: &HostRuntime, name: &str, job: &Job) -> anyhow::Result<()> {
+pub fn route_both<C: Kind>(rt: &HostRuntime, name: &str, job: &Job) -> anyhow::Result<()> {
     let heap = rt.alloc();
-    let mut places: Vec<Option<C>> = repeat(heap, None, job.n.saturating_mul(job.n))?;
+    let mut places: Vec<Option<C>> = vec![in heap; None; job.n.saturating_mul(job.n)]?;
     print!(rt; "{name}, matrix:")?;
-    settle::<C, _>(rt, Matrix::new(job.n, places.as_mut_slice()), job)?;
-    let mut entries: Vec<Option<Entry<C>>> = repeat(heap, None, job.cards.len().max(1))?;
+    settle::<C, _>(rt, Matrix::new(job.n, &mut places), job)?;
+    let mut entries: Vec<Option<Entry<C>>> = vec![in heap; None; job.cards.len().max(1)]?;
     print!(rt; "{name}, list:")?;
-    settle::<C, _>(rt, List::new(job.n, entries.as_mut_slice()), job)
+    settle::<C, _>(rt, List::new(job.n, &mut entries), job)
 }
