@@ -2,11 +2,10 @@
 // with that format out of use.
 #![tactic(auto)]
 
-use anyhow::anyhow;
-use bay::{Answer, Bay, Call, Routes, Stopped};
+use anyhow::{Context, anyhow};
+use bay::{Answer, Bay, Call, Routes};
 use costs::Delay;
-use registers::{Bar, HouseTable};
-use std::alloc::Global;
+use registers::{Bar, Code, HouseTable};
 use walks::{Cell, ROW};
 
 const NOTHING: Cell<Delay> = Cell {
@@ -21,51 +20,57 @@ struct Job {
     calls: Vec<Call<Delay>>,
 }
 
-fn number(word: Option<&str>) -> anyhow::Result<usize> {
-    match word {
-        Some(text) => match text.parse::<usize>() {
-            Ok(value) => Ok(value),
-            Err(_) => Err(anyhow!("a format is a whole number")),
-        },
-        None => Err(anyhow!("a line has two formats, or bar and a format")),
-    }
-}
-
-// One line of the input.
-fn read(job: &mut Job, line: &str) -> anyhow::Result<()> {
-    let mut words = line.split_whitespace();
-    let first = words.next();
-    let second = words.next();
-    if first == Some("bar") {
-        let format = number(second)?;
-        if format < 64 {
-            job.bars |= 1 << format;
+impl Job {
+    // The job that standard input has.
+    fn read(rt: &HostRuntime) -> anyhow::Result<Job> {
+        let mut job = Job {
+            bars: 0,
+            calls: Vec::new(rt.alloc()),
+        };
+        for line in rt.lines(rt.alloc()) {
+            job.add(line?.as_str())?;
         }
-        return Ok(());
+        job.calls.push(Call::Route)?;
+        Ok(job)
     }
-    let from = number(first)?;
-    let to = number(second)?;
-    job.calls.push(Call::Book { from, to })?;
-    Ok(())
+
+    // Adds what one line of the input asks for.
+    fn add(&mut self, line: &str) -> anyhow::Result<()> {
+        let mut words = line.split_whitespace();
+        match (words.next(), words.next()) {
+            (Some("bar"), word) => {
+                let format = number(word)?;
+                if format < 64 {
+                    self.bars |= 1 << format;
+                }
+            }
+            (from, to) => {
+                let from = number(from)?;
+                let to = number(to)?;
+                self.calls.push(Call::Book { from, to })?;
+            }
+        }
+        Ok(())
+    }
 }
 
-fn read_job(rt: &HostRuntime) -> anyhow::Result<Job> {
-    let mut job = Job {
-        bars: 0,
-        calls: Vec::new(rt.alloc()),
-    };
-    for line in rt.lines(rt.alloc()) {
-        read(&mut job, line?.as_str())?;
-    }
-    job.calls.push(Call::Route)?;
-    Ok(job)
+fn number(word: Option<&str>) -> anyhow::Result<usize> {
+    word.context("a line has two formats, or bar and a format")?
+        .parse()
+        .map_err(|_| anyhow!("a format is a whole number"))
 }
 
-// The formats of row k, as `4 3 0 2`.
-fn print_row(rt: &HostRuntime, chains: &[u8], k: usize) -> anyhow::Result<()> {
-    let from = ROW.saturating_mul(k);
-    let count = chains.get(from).copied().unwrap_or(0) as usize;
-    for format in chains.iter().skip(from.saturating_add(1)).take(count) {
+// The formats of a row, behind the byte that counts them.
+fn formats(row: &[u8]) -> &[u8] {
+    match row.split_first() {
+        Some((count, bytes)) => bytes.get(..usize::from(*count)).unwrap_or(bytes),
+        None => row,
+    }
+}
+
+// Formats and the end of the line, as ` 4 3 0 2`.
+fn print_formats(rt: &HostRuntime, formats: &[u8]) -> anyhow::Result<()> {
+    for format in formats {
         print!(rt; " {format}")?;
     }
     println!(rt; "")?;
@@ -73,14 +78,18 @@ fn print_row(rt: &HostRuntime, chains: &[u8], k: usize) -> anyhow::Result<()> {
 }
 
 fn print_routes(rt: &HostRuntime, routes: &Routes<Delay>) -> anyhow::Result<()> {
-    for (k, cost) in routes.costs.as_slice().iter().enumerate() {
-        let chains = routes.chains.as_slice();
-        if chains.get(ROW.saturating_mul(k)).copied().unwrap_or(0) == 0 {
+    for (k, (cost, row)) in routes
+        .costs
+        .iter()
+        .zip(routes.chains.chunks(ROW))
+        .enumerate()
+    {
+        let formats = formats(row);
+        if formats.is_empty() {
             println!(rt; "leg {k}: none")?;
         } else {
-            let lines = cost.lines;
-            print!(rt; "leg {k}: {lines} by")?;
-            print_row(rt, chains, k)?;
+            print!(rt; "leg {k}: {} by", cost.lines)?;
+            print_formats(rt, formats)?;
         }
     }
     Ok(())
@@ -91,22 +100,13 @@ fn print_answer(rt: &HostRuntime, answer: &Answer<Delay>) -> anyhow::Result<()> 
         Answer::Routed(routes) => print_routes(rt, routes)?,
         Answer::Looped(row) => {
             print!(rt; "a loop gains time:")?;
-            print_row(rt, row.as_slice(), 0)?;
+            print_formats(rt, formats(row))?;
         }
         Answer::Refused(fault) => {
-            let code = fault.code();
-            let number = code.number;
-            let part = code.part;
+            let Code { number, part, .. } = fault.code();
             println!(rt; "refused: {number}, part {part}")?;
         }
         _ => {}
-    }
-    Ok(())
-}
-
-fn print_answers(rt: &HostRuntime, answers: &[Answer<Delay>]) -> anyhow::Result<()> {
-    for answer in answers {
-        print_answer(rt, answer)?;
     }
     Ok(())
 }
@@ -117,20 +117,22 @@ fn serve(rt: &HostRuntime, bars: u64, calls: &[Call<Delay>]) -> anyhow::Result<(
     let mut table = [NOTHING; 64];
     let mut costs = [Delay { lines: 0 }; 32];
     let mut chains = [255; 2112];
-    match bay.run(rt.alloc(), calls, &mut table, &mut costs, &mut chains) {
-        Ok(answers) => print_answers(rt, answers.as_slice()),
-        Err(Stopped { answers: _ }) => Err(anyhow!("there is no memory")),
-    }
+    let answers = bay
+        .run(rt.alloc(), calls, &mut table, &mut costs, &mut chains)
+        .map_err(|_| anyhow!("there is no memory"))?;
+    answers
+        .iter()
+        .try_for_each(|answer| print_answer(rt, answer))
 }
 
 // The bare table, and where formats are barred the same legs once more under the bars.
 fn run(rt: &HostRuntime) -> anyhow::Result<()> {
-    let job = read_job(rt)?;
+    let job = Job::read(rt)?;
     println!(rt; "over the house table:")?;
-    serve(rt, 0, job.calls.as_slice())?;
+    serve(rt, 0, &job.calls)?;
     if job.bars != 0 {
         println!(rt; "under the bars:")?;
-        serve(rt, job.bars, job.calls.as_slice())?;
+        serve(rt, job.bars, &job.calls)?;
     }
     Ok(())
 }
