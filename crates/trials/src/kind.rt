@@ -1,12 +1,9 @@
 // The cost kinds as plain numbers, so that one text serves for both.
 use crate::dice::Dice;
-use costs::{Cost, Delay, Depth};
+use costs::{Delay, Depth};
+use ticket_call::TicketCost;
 
-pub trait Kind: Cost {
-    fn of(number: i32) -> Self;
-
-    fn number(self) -> i32;
-
+pub trait Kind: TicketCost {
     // What two numbers along a walk come to.
     fn combined(a: i32, b: i32) -> i32;
 
@@ -18,14 +15,6 @@ pub trait Kind: Cost {
 }
 
 impl Kind for Delay {
-    fn of(number: i32) -> Delay {
-        Delay { lines: number }
-    }
-
-    fn number(self) -> i32 {
-        self.lines
-    }
-
     fn combined(a: i32, b: i32) -> i32 {
         a.saturating_add(b)
     }
@@ -42,16 +31,6 @@ impl Kind for Delay {
 }
 
 impl Kind for Depth {
-    fn of(number: i32) -> Depth {
-        Depth {
-            bits: u8::try_from(number).unwrap_or(0),
-        }
-    }
-
-    fn number(self) -> i32 {
-        i32::from(self.bits)
-    }
-
     fn combined(a: i32, b: i32) -> i32 {
         a.min(b)
     }

@@ -36,13 +36,13 @@ struct Sheets<C> {
 impl<C: Kind> Sheets<C> {
     fn new(heap: Global, job: &Job) -> Result<Sheets<C>, AllocError> {
         let junk = Cell {
-            card: Some(C::of(3)),
-            least: Some(C::of(-7)),
+            card: Some(C::of_number(3)),
+            least: Some(C::of_number(-7)),
         };
         let rows = job.legs.len().saturating_add(1);
         Ok(Sheets {
             table: vec![in heap; junk; job.n.saturating_mul(job.n).saturating_add(2)]?,
-            costs: vec![in heap; C::of(11); rows]?,
+            costs: vec![in heap; C::of_number(11); rows]?,
             chains: vec![in heap; JUNK; rows.saturating_mul(ROW)]?,
         })
     }
@@ -57,7 +57,7 @@ impl<C: Kind> Sheets<C> {
                 .costs
                 .iter()
                 .skip(entries)
-                .all(|cost| cost.number() == C::of(11).number())
+                .all(|cost| cost.number() == C::of_number(11).number())
     }
 }
 
@@ -229,7 +229,9 @@ fn print_legs<C: Kind>(rt: &HostRuntime, job: &Job, sheets: &Sheets<C>) -> anyho
 
 // Enters the cards and books the legs; whether all is granted.
 fn set_up<C: Kind, R: Register<Cost = C>>(bay: &mut Bay<R>, job: &Job) -> bool {
-    job.cards.iter().all(|card| bay.enter(card.from, card.to, C::of(card.number)).is_ok())
+    job.cards.iter().all(|card| bay
+        .enter(card.from, card.to, C::of_number(card.number))
+        .is_ok())
         && job
             .legs
             .iter()
