@@ -35,6 +35,6 @@ impl Cost for Delay {
     }
 
     fn admitted(self) -> bool {
-        -MOST_LINES <= self.lines && self.lines <= MOST_LINES
+        (-MOST_LINES..=MOST_LINES).contains(&self.lines)
     }
 }

@@ -35,6 +35,6 @@ impl Cost for Depth {
     }
 
     fn admitted(self) -> bool {
-        1 <= self.bits && self.bits <= MOST_BITS
+        (1..=MOST_BITS).contains(&self.bits)
     }
 }
