@@ -1,7 +1,7 @@
 // The list: a register that takes an entry for each card, in memory that its maker lends.
 ghost use Rattle.std.specs.Prelude.{◌≡◌, ℕ, ◌<◌, ◌≤◌, true, length, is_some, position, IfSome, Some, None, MatchOption, slice_set};
 ghost use Rattle.registers.specs.Fault.{first_cause, refusal, after};
-ghost use Rattle.registers.specs.Meaning.{entered, withdrawn, enter_causes, withdraw_causes};
+ghost use Rattle.registers.specs.Meaning.{possible, entered, withdrawn, enter_causes, withdraw_causes};
 ghost use Rattle.lent.specs.Lent.{admitted_by, begun, how_many};
 ghost use Rattle.lent.specs.List.{entries_fit, list_fits, list_causes, live, cost_for, first_cost, without, listed, list_means, list_cleared, Free, Writable, Full};
 
@@ -45,11 +45,19 @@ fn list_fits(n: usize, entries: usize) -> bool
     size_fits(n) && entries_fit(entries)
 }
 
+// Whether the two are different formats below n. Not by `judge_ends`: every search of the list asks this of each entry, and
+// the plain test is the faster one.
+fn is_possible(n: usize, from: Format, to: Format) -> bool
+    ensures { result ≡ possible n from to }
+{
+    from < n && to < n && from != to
+}
+
 // The entry, where it can hold a card.
 fn live_entry<C: Cost>(n: usize, held: Option<Entry<C>>) -> Option<Entry<C>>
     ensures { result ≡ live (admitted_by C.Cost.algebra C.Cost.value) n held }
 {
-    held.filter(|entry| judge_entry(n, entry.from, entry.to, entry.cost).is_ok())
+    held.filter(|entry| is_possible(n, entry.from, entry.to) && entry.cost.admitted())
 }
 
 // The cost that an entry has for a pair.
