@@ -42,14 +42,14 @@ module _ (base text more bytes : List ℕ) (count end : ℕ) (count_is : count �
 pub writes_none : (o : Output) → Writes o o []
 writes_none o = record { adds = λ base text h. subst (λ t. Holds base t o) (sym (append-nil text)) h; same = refl }
 
-pub writes_both : (o o' o'' : Output) (a b : List ℕ) → Writes o o' a → Writes o' o'' b → Writes o o'' (a ++ b)
-writes_both o o' o'' a b p q = record {
+pub writes_both : {o o' o'' : Output} {a b : List ℕ} → Writes o o' a → Writes o' o'' b → Writes o o'' (a ++ b)
+writes_both {o} {o'} {o''} {a} {b} p q = record {
   adds = λ base text h. subst (λ t. Holds base t o'') (append_assoc text a b) (q.adds base (text ++ a) (p.adds base text h));
   same = q.same ∙ p.same;
 }
 
-pub writes_is : (o o' : Output) (a b : List ℕ) → a ≡ b → Writes o o' a → Writes o o' b
-writes_is o o' a b e p = subst (Writes o o') e p
+pub writes_is : {o o' : Output} {a b : List ℕ} → a ≡ b → Writes o o' a → Writes o o' b
+writes_is {o} {o'} e p = subst (Writes o o') e p
 
 -- the text from the start of a place
 pub printed : (base text : List ℕ) (o : Output) (n : ℕ) → Holds base ([] ++ text) o → n ≡ min (length text) most_length → n ≤ length base → length base < most_length →

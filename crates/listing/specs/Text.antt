@@ -4,9 +4,8 @@ use Rattle.std.specs.Fmt.{signed_decimal}
 use Rattle.std.specs.List.{flat_map}
 use Rattle.costs.specs.declared.delay.Delay.{Delay}
 use Rattle.costs.specs.declared.depth.Depth.{Depth}
+use Rattle.registers.specs.Text.{layer_text}
 use Rattle.registers.specs.declared.fault.Code.{Code}
-use Rattle.registers.specs.declared.fault.Layer.{Layer}
-use Rattle.registers.specs.declared.fault.Layer.TheVariants as layer
 use Rattle.walks.specs.Sheet.{row_at}
 use Rattle.bay.specs.Routes.{no_ends}
 use Rattle.bay.specs.declared.legs.Ends.{Ends}
@@ -63,11 +62,6 @@ module _ (fourccs : List (List ℕ)) where
   -- the line of a loop
   abbrev pub loop_text : List ℕ → List ℕ
   loop_text formats = pieces (codes "(loop (" ∷ codes_text formats ∷ codes "))" ∷ (10 ∷ []) ∷ [])
-
-abbrev pub layer_text : Layer → List ℕ
-layer_text layer.Ticket = codes "ticket"
-layer_text layer.Bay = codes "bay"
-layer_text layer.Register = codes "register"
 
 -- the line of a refusal: layer, number, part and byte
 abbrev pub code_line : Code → ℕ → List ℕ

@@ -1,4 +1,5 @@
-// Text written into a place of bytes, from its start. What does not fit is only counted.
+// Text written into a place of bytes, from its start. What does not fit is only counted. A place and a count, and no
+// `fmt::Write`: a code is four bytes that need not be text, and each write would have an error that cannot come.
 ghost use Rattle.std.specs.Prelude.{◌≡◌, [], decimal};
 ghost use Rattle.std.specs.Fmt.{signed_decimal};
 ghost use Rattle.listing.specs.Output.{Holds, Writes};

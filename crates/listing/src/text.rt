@@ -1,7 +1,8 @@
 // The lines of an answer.
 ghost use Rattle.std.specs.Prelude.{◌≡◌, ◌≤◌};
+ghost use Rattle.registers.specs.Text.{layer_text};
 ghost use Rattle.listing.specs.Output.{Writes};
-ghost use Rattle.listing.specs.Text.{formats_of, code_text, codes_text, found_text, leg_text, layer_text, code_line};
+ghost use Rattle.listing.specs.Text.{formats_of, code_text, codes_text, found_text, leg_text, code_line};
 
 use crate::output::Output;
 use registers::{Code, Layer};

@@ -20,9 +20,9 @@ loop-k-preserved g c =
     let numbers = map g.C.TicketCost.writes c.args.costs.now in
     let ends = c.args.shared.now.ends.now in
     let leg = get_or (take c.min.result c.args.shared.now.ends.now) c.loop-k.k no_ends in
-    writes_is c.args.out.now c.put_leg.new.out _ _ (legs_more c.args.shared.now.codes.now ends numbers c.args.shared.now.chains.now c.loop-k.k)
-    (writes_both c.args.out.now c.loop-k.out c.put_leg.new.out _ _ c.loop-k.invariant
-    (writes_is c.loop-k.out c.put_leg.new.out _ _
+    writes_is (legs_more c.args.shared.now.codes.now ends numbers c.args.shared.now.chains.now c.loop-k.k)
+    (writes_both c.loop-k.invariant
+    (writes_is
     (ap (λ z. leg_text c.args.shared.now.codes.now c.loop-k.k leg z c.row_formats.result.now) (to_z-of_z w32 c.number_at-cost.result fits ∙ c.number_at-cost.ensures)
     ∙ ap (leg_text c.args.shared.now.codes.now c.loop-k.k leg (get_or numbers c.loop-k.k (pos 0))) c.row_formats.ensures
     ∙ ap (λ e. leg_text c.args.shared.now.codes.now c.loop-k.k e (get_or numbers c.loop-k.k (pos 0)) (formats_of c.args.shared.now.chains.now c.loop-k.k)) (get_or-take c.min.result c.args.shared.now.ends.now c.loop-k.k no_ends (omega (arith, length-take c.min.result c.args.shared.now.ends.now))))
@@ -31,5 +31,5 @@ loop-k-preserved g c =
 pub returns : goal.returns
 returns g c =
     let all : c.loop-k.k ≡ min c.args.legs 32 = omega (arith, c.loop-k.auto.k-end, c.loop-k-test.false, c.min.ensures) in
-    writes_both _ _ _ _ _ (writes_is _ _ _ _ (ap (legs_text c.args.shared.now.codes.now c.args.shared.now.ends.now (map g.C.TicketCost.writes c.args.costs.now) c.args.shared.now.chains.now) all) c.loop-k.invariant)
-    (writes_both _ _ _ _ _ c.put.ensures c.put-2.ensures)
+    writes_both (writes_is (ap (legs_text c.args.shared.now.codes.now c.args.shared.now.ends.now (map g.C.TicketCost.writes c.args.costs.now) c.args.shared.now.chains.now) all) c.loop-k.invariant)
+    (writes_both c.put.ensures c.put-2.ensures)

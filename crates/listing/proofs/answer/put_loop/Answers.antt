@@ -3,6 +3,6 @@ use Rattle.listing.proofs.answer.put_loop.Goals as goal
 
 pub returns : goal.returns
 returns c =
-    writes_both _ _ _ _ _ c.put.ensures
-    (writes_both _ _ _ _ _ c.put_codes.ensures
-    (writes_both _ _ _ _ _ c.put-2.ensures c.put-3.ensures))
+    writes_both c.put.ensures
+    (writes_both c.put_codes.ensures
+    (writes_both c.put-2.ensures c.put-3.ensures))

@@ -3,12 +3,12 @@ use Rattle.listing.proofs.text.put_code_line.Goals as goal
 
 pub returns : goal.returns
 returns c =
-    writes_both _ _ _ _ _ c.put.ensures
-    (writes_both _ _ _ _ _ (writes_is _ _ _ _ c.layer_word.ensures c.put-2.ensures)
-    (writes_both _ _ _ _ _ c.put-3.ensures
-    (writes_both _ _ _ _ _ c.put_number.ensures
-    (writes_both _ _ _ _ _ c.put-4.ensures
-    (writes_both _ _ _ _ _ c.put_number-2.ensures
-    (writes_both _ _ _ _ _ c.put-5.ensures
-    (writes_both _ _ _ _ _ c.put_number-3.ensures
-    (writes_both _ _ _ _ _ c.put-6.ensures c.put-7.ensures))))))))
+    writes_both c.put.ensures
+    (writes_both (writes_is c.layer_word.ensures c.put-2.ensures)
+    (writes_both c.put-3.ensures
+    (writes_both c.put_number.ensures
+    (writes_both c.put-4.ensures
+    (writes_both c.put_number-2.ensures
+    (writes_both c.put-5.ensures
+    (writes_both c.put_number-3.ensures
+    (writes_both c.put-6.ensures c.put-7.ensures))))))))

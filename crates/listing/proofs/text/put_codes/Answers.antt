@@ -9,7 +9,7 @@ pub returns : goal.returns
 returns c =
     let fourccs = c.args.codes.now in
     let others = c.in-Some.others.now in
-    writes_is _ _ _ _
+    writes_is
     (ap (λ fs. code_text fourccs c.in-Some.first.now ++ flat_map (λ g. codes " " ++ code_text fourccs g) fs) (take_all c.loop-format.format-index others c.loop-format-test.false)
     ∙ ap (codes_text fourccs) (sym c.in-Some.ensures.cases.0))
-    (writes_both _ _ _ _ _ c.put_code.ensures c.loop-format.invariant)
+    (writes_both c.put_code.ensures c.loop-format.invariant)

@@ -16,11 +16,11 @@ some_found fourccs cost (f ∷ fs) n = refl
 
 pub returns-then-is_empty : goal.returns-then-is_empty
 returns-then-is_empty c =
-    writes_is c.args.out.now c.put.new.self (codes "none") _ (none_found c.args.codes.now c.args.cost c.args.formats.now (eqb-true (length c.args.formats.now) 0 (sym c.is_empty.ensures ∙ c.if-is_empty.true))) c.put.ensures
+    writes_is (none_found c.args.codes.now c.args.cost c.args.formats.now (eqb-true (length c.args.formats.now) 0 (sym c.is_empty.ensures ∙ c.if-is_empty.true))) c.put.ensures
 
 pub returns : goal.returns
 returns c =
-    writes_is c.args.out.now c.put-3.new.self _ _ (some_found c.args.codes.now c.args.cost c.args.formats.now (eqb-false (length c.args.formats.now) 0 (sym c.is_empty.ensures ∙ c.if-is_empty.false)))
-    (writes_both _ _ _ _ _ (writes_is _ _ _ (signed_decimal c.args.cost) (ap signed_decimal (to_z-of_z w32 c.args.cost c.ranges.cost)) c.put_signed.ensures)
-    (writes_both _ _ _ _ _ c.put-2.ensures
-    (writes_both _ _ _ _ _ c.put_codes.ensures c.put-3.ensures)))
+    writes_is (some_found c.args.codes.now c.args.cost c.args.formats.now (eqb-false (length c.args.formats.now) 0 (sym c.is_empty.ensures ∙ c.if-is_empty.false)))
+    (writes_both (writes_is (ap signed_decimal (to_z-of_z w32 c.args.cost c.ranges.cost)) c.put_signed.ensures)
+    (writes_both c.put-2.ensures
+    (writes_both c.put_codes.ensures c.put-3.ensures)))

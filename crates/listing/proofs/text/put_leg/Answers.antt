@@ -6,12 +6,12 @@ use Rattle.listing.proofs.text.put_leg.Goals as goal
 
 pub returns : goal.returns
 returns c =
-    writes_both _ _ _ _ _ c.put.ensures
-    (writes_both _ _ _ _ _ c.put_number.ensures
-    (writes_both _ _ _ _ _ c.put-2.ensures
-    (writes_both _ _ _ _ _ c.put_number-2.ensures
-    (writes_both _ _ _ _ _ c.put-3.ensures
-    (writes_both _ _ _ _ _ c.put_number-3.ensures
-    (writes_both _ _ _ _ _ c.put-4.ensures
-    (writes_both _ _ _ _ _ (writes_is _ _ _ (found_text c.args.codes.now c.args.cost c.args.formats.now) (ap (λ z. found_text c.args.codes.now z c.args.formats.now) (to_z-of_z w32 c.args.cost c.ranges.cost)) c.put_found.ensures)
-    (writes_both _ _ _ _ _ c.put-5.ensures c.put-6.ensures))))))))
+    writes_both c.put.ensures
+    (writes_both c.put_number.ensures
+    (writes_both c.put-2.ensures
+    (writes_both c.put_number-2.ensures
+    (writes_both c.put-3.ensures
+    (writes_both c.put_number-3.ensures
+    (writes_both c.put-4.ensures
+    (writes_both (writes_is (ap (λ z. found_text c.args.codes.now z c.args.formats.now) (to_z-of_z w32 c.args.cost c.ranges.cost)) c.put_found.ensures)
+    (writes_both c.put-5.ensures c.put-6.ensures))))))))

@@ -1,4 +1,4 @@
-use Rattle.std.proofs.Common.{◌≡◌, true, false, [], ◌∷◌, ℤ, pos, negsuc, nat_abs, decimal, sym, refl, ap, ◌∙◌, subst, arith, w32}
+use Rattle.std.proofs.Common.{◌≡◌, true, false, ◌∷◌, ℤ, pos, negsuc, nat_abs, decimal, sym, refl, ap, ◌∙◌, subst, arith, w32}
 use Rattle.std.proofs.lemmas.Int.{to_z-of_z, ints}
 use Rattle.std.proofs.lemmas.Bool.Decides.{nat_tests}
 use Rattle.std.specs.Fmt.{signed_decimal}
@@ -23,12 +23,9 @@ returns c =
     let below = sym (c.is_negative.ensures ∙ ap is_negative same) in
     elim c.if-is_negative.branch [
       | then-is_negative w ↦
-          writes_is c.args.self.now c.put_number.new.self (45 ∷ decimal c.unsigned_abs.result) (signed_decimal c.args.z)
-          (ap (λ n. 45 ∷ decimal n) size ∙ below_zero c.args.z (below ∙ w.if-is_negative.true))
-          (writes_both c.args.self.now w.put.new.self c.put_number.new.self (45 ∷ []) (decimal c.unsigned_abs.result) w.put.ensures
-          (subst (λ o. Writes o c.put_number.new.self (decimal c.unsigned_abs.result)) w.self-is c.put_number.ensures))
+          writes_is (ap (λ n. 45 ∷ decimal n) size ∙ below_zero c.args.z (below ∙ w.if-is_negative.true))
+          (writes_both w.put.ensures (subst (λ o. Writes o c.put_number.new.self (decimal c.unsigned_abs.result)) w.self-is c.put_number.ensures))
       | else-is_negative w ↦
-          writes_is c.args.self.now c.put_number.new.self (decimal c.unsigned_abs.result) (signed_decimal c.args.z)
-          (ap decimal size ∙ not_below c.args.z (below ∙ w.if-is_negative.false))
+          writes_is (ap decimal size ∙ not_below c.args.z (below ∙ w.if-is_negative.false))
           (subst (λ o. Writes o c.put_number.new.self (decimal c.unsigned_abs.result)) w.self-is c.put_number.ensures)
     ]
