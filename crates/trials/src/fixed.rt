@@ -1,10 +1,10 @@
 // Cases that are known to be hard, and refusals of the bay.
 use crate::kind::Kind;
 use crate::route::{Card, Job, route_both};
-use bay::{Bay, BayFault, Ends, Note};
+use bay::{Bay, BayFault, Ends, Leg, Note};
 use costs::{Delay, Depth};
 use lent::Matrix;
-use registers::{Layer, Register};
+use registers::Register;
 use std::alloc::{AllocError, Global};
 use walks::Cell;
 
@@ -150,15 +150,7 @@ fn large(rt: &HostRuntime) -> anyhow::Result<()> {
 }
 
 fn print_fault(rt: &HostRuntime, what: &str, fault: BayFault) -> anyhow::Result<()> {
-    let code = fault.code();
-    let layer = match code.layer {
-        Layer::Ticket => "ticket",
-        Layer::Bay => "bay",
-        Layer::Register => "register",
-    };
-    let number = code.number;
-    let part = code.part;
-    println!(rt; "{what}: {layer} {number}.{part}")?;
+    println!(rt; "{what}: {}", fault.code())?;
     Ok(())
 }
 
@@ -175,11 +167,6 @@ fn print_answer(
     Ok(())
 }
 
-const NOTHING: Cell<Delay> = Cell {
-    card: None,
-    least: None,
-};
-
 // A route in so many cells, entries and bytes.
 fn route_in<R: Register<Cost = Delay>>(
     rt: &HostRuntime,
@@ -190,7 +177,7 @@ fn route_in<R: Register<Cost = Delay>>(
     bytes: usize,
 ) -> anyhow::Result<()> {
     let heap = rt.alloc();
-    let mut table = vec![in heap; NOTHING; cells]?;
+    let mut table = vec![in heap; Cell::empty(); cells]?;
     let mut costs = vec![in heap; Delay { lines: 0 }; entries]?;
     let mut chains = vec![in heap; 0; bytes]?;
     print_answer(rt, what, bay.route(&mut table, &mut costs, &mut chains))
@@ -241,15 +228,11 @@ fn print_leg<R: Register<Cost = Delay>>(
     k: usize,
 ) -> anyhow::Result<()> {
     match bay.show(k) {
-        Ok(leg) => {
-            let from = leg.from;
-            let to = leg.to;
-            match leg.note {
-                Note::Open => println!(rt; "leg {k} {from} {to}: open")?,
-                Note::NoChain => println!(rt; "leg {k} {from} {to}: no chain")?,
-                Note::Chain(count) => println!(rt; "leg {k} {from} {to}: {count} formats")?,
-            }
-        }
+        Ok(Leg { from, to, note }) => match note {
+            Note::Open => println!(rt; "leg {k} {from} {to}: open")?,
+            Note::NoChain => println!(rt; "leg {k} {from} {to}: no chain")?,
+            Note::Chain(count) => println!(rt; "leg {k} {from} {to}: {count} formats")?,
+        },
         Err(fault) => print_fault(rt, "show", fault)?,
     }
     Ok(())
