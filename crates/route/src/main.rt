@@ -8,11 +8,6 @@ use costs::Delay;
 use registers::{Bar, Code, HouseTable};
 use walks::{Cell, ROW};
 
-const NOTHING: Cell<Delay> = Cell {
-    card: None,
-    least: None,
-};
-
 // What the input asks for: the formats that are barred, and the calls to make.
 #[derive(Drop)]
 struct Job {
@@ -114,7 +109,7 @@ fn print_answer(rt: &HostRuntime, answer: &Answer<Delay>) -> anyhow::Result<()> 
 // Makes the calls on a new bay over the house table under these bars, and prints what came of them.
 fn serve(rt: &HostRuntime, bars: u64, calls: &[Call<Delay>]) -> anyhow::Result<()> {
     let mut bay = Bay::new(Bar::new(HouseTable, bars));
-    let mut table = [NOTHING; 64];
+    let mut table = [Cell::empty(); 64];
     let mut costs = [Delay { lines: 0 }; 32];
     let mut chains = [255; 2112];
     let answers = bay
