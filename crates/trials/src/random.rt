@@ -22,20 +22,22 @@ fn draw_cards<C: Kind>(heap: Global, dice: &mut Dice, n: usize) -> Result<Vec<Ca
     Ok(cards)
 }
 
+fn draw_leg(dice: &mut Dice, n: usize) -> Ends {
+    let from = dice.below(n);
+    let other = dice.below(n.saturating_sub(1));
+    let to = if other < from {
+        other
+    } else {
+        other.saturating_add(1)
+    };
+    Ends { from, to }
+}
+
 // One to five legs.
 fn draw_legs(heap: Global, dice: &mut Dice, n: usize) -> Result<Vec<Ends>, AllocError> {
-    let mut legs = Vec::new(heap);
-    for _ in 0..dice.below(5).saturating_add(1) {
-        let from = dice.below(n);
-        let other = dice.below(n.saturating_sub(1));
-        let to = if other < from {
-            other
-        } else {
-            other.saturating_add(1)
-        };
-        legs.push(Ends { from, to })?;
-    }
-    Ok(legs)
+    (0..dice.below(5).saturating_add(1))
+        .map(|_| draw_leg(dice, n))
+        .collect(heap)
 }
 
 fn trial<C: Kind>(rt: &HostRuntime, name: &str, dice: &mut Dice) -> anyhow::Result<()> {
