@@ -5,7 +5,7 @@ use registers::{Bar, Code, Register, RegisterFault};
 use std::alloc::{AllocError, Global};
 use std::fmt;
 
-// What came of a change.
+// What came of a change. It is printed without the layer, since all that is played on are registers.
 #[derive(Drop)]
 pub struct Change(pub Result<(), RegisterFault>);
 
