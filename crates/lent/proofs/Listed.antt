@@ -1,5 +1,5 @@
 -- A list: what its first entries give, where a card can be written, and how many entries give one.
-use Rattle.std.proofs.Common.{◌≡◌, ℕ, zero, suc, ◌+◌, ◌-◌, ◌*◌, ◌<◌, ◌≤◌, Bool, true, false, cond, not, ◌&&◌, eqb, ltb, position, ◌≢◌, List, [], ◌∷◌, ◌++◌, length, get_or, take, drop, set, replicate, is_some, IfSome, Some, None, Option, sym, refl, ap, ◌∙◌, subst, append_assoc, append-nil, add-one, one-add, arith, MatchOption}
+use Rattle.std.proofs.Common.{◌≡◌, ℕ, zero, suc, ◌+◌, ◌-◌, ◌*◌, ◌<◌, ◌≤◌, Bool, true, false, cond, not, ◌&&◌, eqb, ltb, position, ◌≢◌, List, [], ◌∷◌, ◌++◌, length, get_or, take, drop, set, replicate, is_some, Some, None, Option, sym, refl, ap, ◌∙◌, subst, append_assoc, append-nil, add-one, one-add, arith, MatchOption}
 use mathlib.Core.Path.{fun_ext}
 use Rattle.std.specs.Option.{option_map}
 use Rattle.std.specs.List.{position_or_len}
@@ -71,7 +71,7 @@ module _ {C : Type 0} (admits : C → Bool) (n : ℕ) where
   first_append [] ys a b = refl
   first_append (x ∷ xs) ys a b = ap (or_else (cost_for admits n x a b)) (first_append xs ys a b) ∙ sym (or_assoc (cost_for admits n x a b) (first_cost admits n xs a b) (first_cost admits n ys a b))
 
-  pub first_push : (xs : List (Option (Entry C))) (y : Option (Entry C)) (a b : ℕ) → first_cost admits n (xs ++ y ∷ []) a b ≡ or_else (first_cost admits n xs a b) (cost_for admits n y a b)
+  first_push : (xs : List (Option (Entry C))) (y : Option (Entry C)) (a b : ℕ) → first_cost admits n (xs ++ y ∷ []) a b ≡ or_else (first_cost admits n xs a b) (cost_for admits n y a b)
   first_push xs y a b = first_append xs (y ∷ []) a b ∙ ap (or_else (first_cost admits n xs a b)) (none_or (cost_for admits n y a b))
 
   pub first_split : (es : List (Option (Entry C))) (i : ℕ) → i < length es → (a b : ℕ) → first_cost admits n es a b ≡ or_else (first_cost admits n (take i es) a b) (or_else (cost_for admits n (get_or es i None) a b) (first_cost admits n (drop (i + 1) es) a b))
@@ -277,25 +277,6 @@ module _ {C : Type 0} (admits : C → Bool) (n : ℕ) where
         by_free (Some i) h = free_writable es a b i new h.0 h.1
 
   -- steps of the loops
-  -- an entry whose pair was seen is free
-  pub seen_free : (xs : List (Option (Entry C))) (y : Option (Entry C)) (e : Entry C) → live admits n y ≡ Some e → is_some (first_cost admits n xs e.from e.to) ≡ true → (a b : ℕ) → is_some (cost_for admits n y a b) ≡ true → is_some (first_cost admits n xs a b) ≡ true
-  seen_free xs y e is seen a b h =
-      let at = same_pair e.from e.to a b (test (eqb e.from a && eqb e.to b) (sym (ap (λ l. is_some (cost_of admits n l a b)) is) ∙ h)) in
-      ap (λ k. is_some (first_cost admits n xs k b)) (sym at.0) ∙ ap (λ k. is_some (first_cost admits n xs e.from k)) (sym at.1) ∙ seen
-    where
-      test : (t : Bool) → is_some (cond t (Some e.cost) None) ≡ true → t ≡ true
-      test true h = refl
-      test false h = absurd (false≢true h)
-
-  pub cost_admitted : (e : Option (Entry C)) (a b : ℕ) → IfSome (cost_for admits n e a b) (λ x. admits x ≡ true)
-  cost_admitted None a b = tt
-  cost_admitted (Some e) a b = by_test (possible n e.from e.to && admits e.cost) (eqb e.from a && eqb e.to b) refl refl
-    where
-      by_test : (t s : Bool) → (possible n e.from e.to && admits e.cost) ≡ t → (eqb e.from a && eqb e.to b) ≡ s → IfSome (cost_of admits n (cond t (Some e) None) a b) (λ x. admits x ≡ true)
-      by_test false s p q = tt
-      by_test true false p q = rw q tt
-      by_test true true p q = rw q (and_parts (possible n e.from e.to) (admits e.cost) p).1
-
   -- the loop that looks for a free entry: every entry so far gives a pair its card, and the pairs seen are those with a card
   abbrev pub Seen : List (Option (Entry C)) → ℕ → List Bool → Type 0
   Seen es i seen = (length seen ≡ 4096) × (how_many n (first_cost admits n (take i es)) ≡ i) × ((a b : ℕ) → a < 64 → b < 64 → get_or seen (a * 64 + b) false ≡ is_some (first_cost admits n (take i es) a b))
@@ -309,9 +290,6 @@ module _ {C : Type 0} (admits : C → Bool) (n : ℕ) where
 
     at : get_or seen (e.from * 64 + e.to) false ≡ is_some (first_cost admits n (take i es) e.from e.to)
     at = let p = live_pair (get_or es i None) e there in inv.2 e.from e.to (omega arith) (omega arith)
-
-    pub seen_again : get_or seen (e.from * 64 + e.to) false ≡ true → Free admits n es i
-    seen_again old = seen_free (take i es) (get_or es i None) e there (sym at ∙ old)
 
     pub seen_step : get_or seen (e.from * 64 + e.to) false ≡ false → Seen es (i + 1) (set seen (e.from * 64 + e.to) true)
     seen_step new =

@@ -29,9 +29,6 @@ possible_ends n a b ha hb ne = rw (lt-ltb a n ha, lt-ltb b n hb, ne_eqb a b ne)
 
 -- a granted call, from what a register holds before it and after it
 module _ {C V : Type 0} (v : C → V) (m k : Meaning C) (a b : ℕ) (ends : possible m.size a b ≡ true) where
-  pub standing_is : standing (meant v m) a b ≡ option_map v (m.cards a b)
-  standing_is = rw ends
-
   pub stands : is_some (standing (meant v m) a b) ≡ is_some (m.cards a b)
   stands = rw ends (is_some_mapped v (m.cards a b))
 

@@ -2,15 +2,11 @@ use Rattle.std.proofs.Common.{ap, arith}
 use Rattle.std.proofs.lemmas.List.{take_all}
 use Rattle.lent.specs.Lent.{admitted_by, how_many}
 use Rattle.lent.specs.List.{first_cost}
-use Rattle.lent.proofs.Listed.{seen_none, seen_again, seen_step}
+use Rattle.lent.proofs.Listed.{seen_none, seen_step}
 use Rattle.lent.proofs.list.List.free_entry.Goals as goal
 
 pub loop-i-init : goal.loop-i-init
 loop-i-init g c = seen_none (admitted_by g.C.Cost.algebra g.C.Cost.value) c.args.self.now.n c.args.self.now.entries.now
-
-pub returns-then-seen-place : goal.returns-then-seen-place
-returns-then-seen-place g c =
-    (c.loop-i-test.true, seen_again (admitted_by g.C.Cost.algebra g.C.Cost.value) c.args.self.now.n c.requires c.args.self.now.entries.now c.loop-i.i c.loop-i-test.true c.held-item.result c.held-item.is c.in-Some.entry c.in-Some.ensures c.loop-i.seen c.loop-i.invariant c.if-seen-place.true)
 
 pub loop-i-preserved : goal.loop-i-preserved
 loop-i-preserved g c =
