@@ -8,7 +8,6 @@ use Rattle.costs.specs.Algebra.{Algebra, Lawful}
 use Rattle.walks.specs.Walk.{path, Below, Absent, Distinct, LeastOf, Walk, cost, Chain, WalkCosts, Least, Gains, Tight}
 use Rattle.walks.specs.Theorems.{Sound}
 use Rattle.walks.specs.Tracing.{Follows, Ticked, Led, Grown}
-use Rattle.walks.proofs.Cut.{distinct_few}
 use Rattle.walks.proofs.Tree.{tree_reaches}
 
 module _ (next : List ℕ) (t : ℕ) where
@@ -39,14 +38,6 @@ module _ (next : List ℕ) (t : ℕ) where
   follows_agree v w fs gs ps m bs cs ds h k p q =
       let e = follows_same m (m ∷ bs) (m ∷ ds) (follows_from v ps m bs (rw p at h)) (follows_from w cs m ds (rw q at k)) in
       cc
-
-  -- inside a list, the next format stands behind each one, which is not t
-  pub follows_step : (v : ℕ) (ps : List ℕ) (x y : ℕ) (bs : List ℕ) → Follows next t v (ps ++ x ∷ y ∷ bs) → (y ≡ get_or next x 0) × (x ≡ t → ⊥)
-  follows_step v ps x y bs h = let k = follows_from v ps x (y ∷ bs) h in (follows_head (get_or next x 0) y bs k.2, k.1)
-
-  -- a list ends with t
-  pub follows_end : (v : ℕ) (ps : List ℕ) (x : ℕ) → Follows next t v (ps ++ x ∷ []) → x ≡ t
-  follows_end v ps x h = (follows_from v ps x [] h).1
 
   pub follows_path : (v : ℕ) (fs : List ℕ) → (v ≡ t → ⊥) → Follows next t v fs → (ms : List ℕ) × (fs ≡ path v ms t)
   follows_path v [] ne h = absurd h
@@ -151,9 +142,6 @@ module _ (A : Algebra) (card : ℕ → ℕ → Option A.Value) (d : ℕ → Opti
   -- what leads from a format other than t is a chain to t
   pub led_chain : (v : ℕ) (k : Led A card d t ticked next v) → (v ≡ t → ⊥) → (ms : List ℕ) × (k.formats ≡ path v ms t) × Chain A card (path v ms t)
   led_chain v k ne = let (ms, e) = follows_path next t v k.formats ne k.follows in (ms, e, (rw e at (k.walks ne), rw e at k.distinct))
-
-  pub led_short : (v : ℕ) (k : Led A card d t ticked next v) → length k.formats ≤ length ticked
-  led_short v k = distinct_few (length ticked) k.formats (ticked_below ticked k.formats k.inside) k.distinct
 
 -- Growth has ended: no tight card leads into the tree from outside.
 module _ {A : Algebra} (L : Lawful A) (n : ℕ) (card : ℕ → ℕ → Option A.Value) (sound : Sound A n card) (gainless : Gains A card → ⊥)

@@ -109,13 +109,6 @@ module _ {A : Algebra} (L : Lawful A) where
       let e : b ≡ j.1 = cc j.3 in
       cc j.4
 
-  pub either_none : (o p q : Option A.Value) → (p ≡ None) ⊎ (q ≡ None) → LeastOf A (Either A o p q) o
-  either_none o p q h = least_made (Either A o p q) o (λ x e. inl e) serve
-    where
-      serve : (y : A.Value) → Either A o p q y → Serves A o y
-      serve y (inl e) = (y, e, at_most_self y)
-      serve y (inr j) = absurd (none_joined p q y h j)
-
   -- a candidate is the least, where it is at most what was there
   better : (o p q : Option A.Value) (a b : A.Value) → p ≡ Some a → q ≡ Some b → ((z : A.Value) → o ≡ Some z → AtMost A (A.join a b) z) → LeastOf A (Either A o p q) (Some (A.join a b))
   better o p q a b ep eq h = (inr (a, b, ep, eq, refl), below)

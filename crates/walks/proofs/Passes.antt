@@ -228,7 +228,3 @@ module _ {A : Algebra} (L : Lawful A) (p q : Option A.Value) (joinable : Joinabl
 -- costs that lie within one card more than there are formats can be combined
 pub near_joinable : (A : Algebra) (n : ℕ) (p q : Option A.Value) → 2 * (n + 1) ≤ reach → Near A n p → Near A n q → Joinable A p q
 near_joinable A n p q small np nq a b ep eq = (suc n, suc n, omega arith, np a ep, nq b eq)
-
--- a cell that was read
-pub read_is : (A : Algebra) {C : Type 0} (value : C → A.Value) (n s t : ℕ) (cells : List (Cell C)) (x : Cell C) (o : Option C) → x ≡ cell n cells s t → x.least ≡ o → least_in A value n cells s t ≡ option_map value o
-read_is A value n s t cells x o e f = ap (λ y. option_map value y.least) (sym e) ∙ ap (option_map value) f

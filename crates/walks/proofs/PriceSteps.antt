@@ -1,5 +1,5 @@
 -- Pricing a list of formats card by card: what one card more adds, and what is known at the end.
-use Rattle.std.proofs.Common.{◌≡◌, ℕ, zero, suc, ◌+◌, ◌-◌, ◌<◌, ◌≤◌, true, List, [], ◌∷◌, length, get_or, take, drop, is_some, Some, Option, unwrap_or, sym, refl, ap, ◌∙◌, le_of_suc-le-suc, add-one, arith, take_all, below_more}
+use Rattle.std.proofs.Common.{◌≡◌, ℕ, zero, suc, ◌+◌, ◌-◌, ◌<◌, ◌≤◌, true, List, [], ◌∷◌, length, get_or, take, drop, is_some, Some, Option, unwrap_or, sym, ap, ◌∙◌, le_of_suc-le-suc, add-one, arith, take_all, below_more}
 use Rattle.std.proofs.lemmas.List.{length-drop, get_or-take, get_or-drop, drop-drop}
 use Rattle.costs.specs.Algebra.{Algebra, Lawful, reach}
 use Rattle.walks.specs.Walk.{Walk, cost}
@@ -28,13 +28,6 @@ module _ {A : Algebra} (L : Lawful A) (card : ℕ → ℕ → Option A.Value) wh
   one_more (a ∷ []) k c h e = absurd (omega arith)
   one_more (a ∷ b ∷ fs) zero c h e = ap (λ o. A.join (unwrap_or o A.unit) A.unit) e ∙ join_unit L card c ∙ sym (L.neutral c)
   one_more (a ∷ b ∷ fs) (suc k) c h e = ap (A.join _) (one_more (b ∷ fs) k c (le_of_suc-le-suc h) e) ∙ sym (L.assoc _ _ c)
-
-  pub so_far_none : (fs : List ℕ) (x : A.Value) → x ≡ A.unit → SoFar A card fs 0 x
-  so_far_none fs x e = record { sum = e ∙ first fs; near = rw e L.unit_within; stand = λ j h. absurd (omega arith) }
-    where
-      first : (fs : List ℕ) → A.unit ≡ cost A card (take 1 fs)
-      first [] = refl
-      first (a ∷ fs) = refl
 
   pub so_far_more : (fs : List ℕ) (k : ℕ) (x c y : A.Value) → SoFar A card fs k x → k + 1 < length fs → length fs ≤ reach + 1 → card_at A card fs k ≡ Some c → A.admits c ≡ true →
       ((m l : ℕ) → m + l ≤ reach → A.Within m x → A.Within l c → y ≡ A.join x c) → SoFar A card fs (k + 1) y

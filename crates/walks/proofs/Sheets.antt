@@ -127,9 +127,6 @@ module _ (sheet : List ℕ) (k : ℕ) (row : List ℕ) (room : 66 * k + 66 ≤ l
       get_or-append_right row (drop (66 * k + 66) sheet) 66 (i - 66 * k) 0 long (omega arith) ∙ get_or-drop (66 * k + 66) sheet (i - 66 * k - 66) 0 ∙
       ap (λ j. get_or sheet j 0) (omega arith)
 
-  pub get_or_put_row : (i : ℕ) → i < 66 → get_or (put_row sheet k row) (66 * k + i) 0 ≡ get_or row i 0
-  get_or_put_row i l = sym (get_or_row_at (put_row sheet k row) k i l) ∙ ap (λ r. get_or r i 0) row_at_put_row
-
   pub row_at_put_row_other : (j : ℕ) → (j ≡ k → ⊥) → row_at (put_row sheet k row) j ≡ row_at sheet j
   row_at_put_row_other j ne = ext_get_or 0 (row_at (put_row sheet k row) j) (row_at sheet j) (size (put_row sheet k row) ∙ ap (λ n. min 66 (n - 66 * j)) length_put_row ∙ sym (size sheet)) same
     where

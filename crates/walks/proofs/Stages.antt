@@ -7,7 +7,7 @@ use Rattle.walks.specs.Walk.{Below, LeastOf, WalkCosts, LowWalkCosts, Least, Low
 use Rattle.walks.specs.Theorems.{Sound, Either}
 use Rattle.walks.proofs.Runs.{Runs, to_runs, of_runs, runs_join, runs_split}
 use Rattle.walks.proofs.Least.{AtMost, Covers, OrJoin, at_most_self, drop_front, drop_back, least_made, least_cover, least_same, least_either}
-use Rattle.walks.proofs.Fold.{Low, Calm, Passes, of_low, to_least_low, of_least_low, calm_at, below_mono, low_mono, pass}
+use Rattle.walks.proofs.Fold.{Low, Calm, Passes, of_low, to_least_low, of_least_low, calm_at, low_mono, pass}
 use Rattle.walks.proofs.Loops.{runs_inside}
 
 module _ (A : Algebra) (card : ℕ → ℕ → Option A.Value) where
@@ -62,13 +62,6 @@ module _ {A : Algebra} (L : Lawful A) (card : ℕ → ℕ → Option A.Value) wh
   pub low_end : (s t : ℕ) (o : Option A.Value) → (GainsAt A card t → ⊥) → LowLeast A card t s t o → LowLeast A card (suc t) s t o
   low_end s t o g l = of_least_low L card (suc t) s t o
       (least_cover L (Low A card t s t) (Low A card (suc t) s t) o (λ x. low_mono L card t (suc t) s t x (omega arith)) (skip_end s t g) (to_least_low L card t s t o l))
-
-  -- all formats are low, where h is at least their number
-  pub low_all : (n : ℕ) → Sound A n card → (h : ℕ) → n ≤ h → (s t : ℕ) (o : Option A.Value) → LowLeast A card h s t o → Least A card s t o
-  low_all n sound h e s t o = least_same L (LowWalkCosts A card h s t) (WalkCosts A card s t) o (λ x w. (w.0, w.2, w.3)) back
-    where
-      back : (x : A.Value) → WalkCosts A card s t x → LowWalkCosts A card h s t x
-      back x w = (w.0, below_mono n h w.0 e (runs_inside L card n sound s w.0 t _ (to_runs L card s w.0 t w.1)).1, w.1, w.2)
 
   pub low_zero : (s t : ℕ) → LowLeast A card 0 s t (card s t)
   low_zero s t = of_least_low L card 0 s t (card s t) (least_made L (Low A card 0 s t) (card s t) (λ x e. ([], tt, e)) serve)

@@ -26,6 +26,7 @@ impl<C> Cell<C> {
 }
 
 // The cell of `s` and `t`. The table is a plain slice, whose holder has room for more cells: so `n` is passed beside it.
+#[tactic(auto, using(crate::proofs::Passes::place_lt))]
 pub fn cell_at<C: Cost>(cells: &[Cell<C>], n: usize, s: usize, t: usize) -> Cell<C>
     requires room { n * n ≤ length cells.now }
     requires small { n ≤ reach }

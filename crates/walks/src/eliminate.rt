@@ -45,13 +45,10 @@ fn improve<C: Cost>(cells: &mut [Cell<C>], n: usize, s: usize, pivot: usize, t: 
     requires apart { s ≢ t }
     ensures { Improved C.Cost.algebra C.Cost.value n pivot (Block s (s + 1) t (t + 1)) cells.old cells.new }
 {
-    let Cell { card, least } = cell_at(cells, n, s, t);
     let first = cell_at(cells, n, s, pivot).least;
     let second = cell_at(cells, n, pivot, t).least;
-    cells[s * n + t] = Cell {
-        card,
-        least: better(least, first, second),
-    };
+    let cell = &mut cells[s * n + t];
+    cell.least = better(cell.least, first, second);
 }
 
 // Every cell of `s` and a format from `low` to `high`, by way of the pivot.

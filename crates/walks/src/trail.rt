@@ -122,17 +122,13 @@ fn tight<C: Cost>(cells: &[Cell<C>], n: usize, goal: usize, from: usize, to: usi
     if from == to {
         return false;
     }
-    let cell = cell_at(cells, n, from, to);
-    let Some(card) = cell.card else {
+    let Some(card) = cell_at(cells, n, from, to).card else {
         return false;
     };
-    let Some(onward) = rest(cells, n, goal, to) else {
-        return false;
-    };
-    let Some(whole) = rest(cells, n, goal, from) else {
-        return false;
-    };
-    same(card.join(onward), whole)
+    match (rest(cells, n, goal, to), rest(cells, n, goal, from)) {
+        (Some(onward), Some(whole)) => same(card.join(onward), whole),
+        _ => false,
+    }
 }
 
 // Each format with a tight card to `to`, which is in the tree, joins the tree and the queue. A format is its number, so the loop
