@@ -10,7 +10,7 @@ use Rattle.walks.specs.Cells.{cards_in, least_in}
 use Rattle.walks.specs.Eliminated.{Near, Looked}
 use Rattle.walks.specs.Tracing.{Follows, Traced}
 use Rattle.walks.specs.Sheet.{LeadsIn}
-use Rattle.walks.specs.Solved.{upto, Settled, Solved, Turns}
+use Rattle.walks.specs.Solved.{upto, Settled, Solved, Back, Turns}
 use Rattle.walks.specs.declared.cells.Cell.{Cell}
 use Rattle.walks.proofs.Runs.{Runs, to_runs, of_runs}
 use Rattle.walks.proofs.Least.{at_most_under, at_most_front, least_serves}
@@ -24,13 +24,6 @@ card_near {A} L value n None few admitted x e = cc
 card_near {A} L value n (Some y) few admitted x e =
     let d : value y ≡ x = cc in
     subst (A.Within (suc n)) d (L.within_more 1 (suc n) (value y) (omega arith) (omega arith) (L.admitted_within (value y) admitted))
-
--- the table has the least costs over the cards up to h
-pub record Back (A : Algebra) {C : Type 0} (value : C → A.Value) (n : ℕ) (card : ℕ → ℕ → Option A.Value) (cells : List (Cell C)) (h : ℕ) : Type 0 where
-  pub inside : h < n
-  pub few : n ≤ most_formats
-  pub sound : Sound A n (upto h card)
-  pub settled : Settled A value n (upto h card) cells
 
 -- the search up to h finds no closed walk, where no look below h found one
 pub solved_back : {A : Algebra} → Lawful A → {C : Type 0} (value : C → A.Value) (held : Meaning C) (n h : ℕ) (cells : List (Cell C)) (r : Option ℕ) →

@@ -1,12 +1,13 @@
 -- A register's cards brought to least costs in a table of cells, and a loop that undercuts the unit.
 -- `card` is the cost of the card between two formats, by what it means.
-use Rattle.std.specs.Prelude.{◌≡◌, ℕ, ◌*◌, ◌<◌, ◌≤◌, true, cond, ◌&&◌, List, length, IfSome, Some, None, Option, nat_le, nat_lt}
+use Rattle.std.specs.Prelude.{◌≡◌, ℕ, ◌<◌, ◌≤◌, true, cond, ◌&&◌, List, IfSome, Some, None, Option, nat_le, nat_lt}
 use Rattle.std.specs.Option.{option_map}
 use Rattle.costs.specs.Algebra.{Algebra}
 use Rattle.walks.specs.Walk.{path, cost, Loop, Least, Gains}
+use Rattle.walks.specs.Theorems.{Sound}
 use Rattle.walks.specs.Cells.{cards_in, least_in, Laid, Each}
 use Rattle.registers.specs.Meaning.{most_formats}
-use Rattle.walks.specs.Eliminated.{Looked, Near, UndercutUnit}
+use Rattle.walks.specs.Eliminated.{Looked, UndercutUnit}
 use Rattle.walks.specs.Sheet.{row_of, put_row}
 use Rattle.walks.specs.declared.cells.Cell.{Cell}
 
@@ -27,13 +28,6 @@ module _ (A : Algebra) where
       pub least : option_map value c.least ≡ o
       pub admitted : IfSome o (λ x. A.admits x ≡ true)
 
-    -- the table has its cells, and the least costs back to h from lower formats are near
-    pub record Homeward (n : ℕ) (cells : List (Cell C)) (h : ℕ) : Type 0 where
-      pub room : n * n ≤ length cells
-      pub few : n ≤ most_formats
-      pub inside : h < n
-      pub near : (v : ℕ) → v < h → Near A n (least_in A value n cells v h)
-
     module _ (n : ℕ) (card : ℕ → ℕ → Option A.Value) (cells : List (Cell C)) where
       -- no closed walk undercuts the unit, and the table has the cards and each cell's least cost
       pub record Settled : Type 0 where
@@ -50,3 +44,10 @@ module _ (A : Algebra) where
       -- the card from h to v and the least cost back undercut the unit together
       abbrev pub Turns : ℕ → ℕ → Type 0
       Turns h v = UndercutUnit A (card h v) (least_in A value n cells v h)
+
+    -- the table has the least costs over the cards up to h, so those back to h from the lower formats
+    pub record Back (n : ℕ) (card : ℕ → ℕ → Option A.Value) (cells : List (Cell C)) (h : ℕ) : Type 0 where
+      pub inside : h < n
+      pub few : n ≤ most_formats
+      pub sound : Sound A n (upto h card)
+      pub settled : Settled n (upto h card) cells

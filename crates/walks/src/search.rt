@@ -6,7 +6,7 @@ ghost use Rattle.walks.specs.Cells.{empty, Beyond, Laid, Kept, Each, cards_in};
 ghost use Rattle.walks.specs.Eliminated.{Looked};
 ghost use Rattle.walks.specs.Theorems.{Sound};
 ghost use Rattle.walks.specs.Tracing.{Clear};
-ghost use Rattle.walks.specs.Solved.{upto, Fresh, Homeward, Solved, Turns, LoopWritten};
+ghost use Rattle.walks.specs.Solved.{upto, Back, Fresh, Solved, Turns, LoopWritten};
 
 use crate::cells::{Cell, cell_at};
 use crate::eliminate::{first_stage, second_stage, third_stage, undercut_unit};
@@ -89,7 +89,7 @@ pub fn solve<R: Register>(register: &R, cells: &mut [Cell<R::Cost>]) -> Option<u
 
 // Whether the card from `h` to `v` and the least cost back undercut the unit together.
 fn turns<R: Register>(register: &R, cells: &[Cell<R::Cost>], n: usize, h: usize, v: usize) -> bool
-    requires homeward { Homeward R.Cost.Cost.algebra R.Cost.Cost.value n cells.now h }
+    requires back { Back R.Cost.Cost.algebra R.Cost.Cost.value n (standing (meant R.Cost.Cost.value (R.Register.holds register.now))) cells.now h }
     requires lower { v < h }
     ensures { Decides result (Turns R.Cost.Cost.algebra R.Cost.Cost.value n (standing (meant R.Cost.Cost.value (R.Register.holds register.now))) cells.now h v) }
 {
@@ -98,15 +98,27 @@ fn turns<R: Register>(register: &R, cells: &[Cell<R::Cost>], n: usize, h: usize,
 
 // A format below `h` such that the card from `h` to it and the least cost back undercut the unit together.
 fn way_out<R: Register>(register: &R, cells: &[Cell<R::Cost>], n: usize, h: usize) -> usize
-    requires homeward { Homeward R.Cost.Cost.algebra R.Cost.Cost.value n cells.now h }
+    requires back { Back R.Cost.Cost.algebra R.Cost.Cost.value n (standing (meant R.Cost.Cost.value (R.Register.holds register.now))) cells.now h }
     requires some { (v : ℕ) × (v < h) × Turns R.Cost.Cost.algebra R.Cost.Cost.value n (standing (meant R.Cost.Cost.value (R.Register.holds register.now))) cells.now h v }
     ensures { (result < h) × Turns R.Cost.Cost.algebra R.Cost.Cost.value n (standing (meant R.Cost.Cost.value (R.Register.holds register.now))) cells.now h result }
 {
     (0..h).find(|v| turns(register, cells, n, h, *v)).unwrap()
 }
 
-// Writes into row 0 of the sheet a loop at `h` that undercuts the unit, where `h` is what `solve` answered. No card leads out
-// of `h` among those up to it, so no closed walk over them undercuts the unit, and they have least costs.
+// Brings the register's cards up to `h` to least costs in the table of cells, where `h` is what `solve` answered: no card leads
+// out of `h` among them, so no closed walk over them undercuts the unit.
+fn solve_back<R: Register>(register: &R, cells: &mut [Cell<R::Cost>], n: usize, h: usize)
+    requires room { n * n ≤ length cells.old }
+    requires size { n ≡ (R.Register.holds register.now).size }
+    requires few { (0 < n) × (n ≤ 64) }
+    requires found { Looked R.Cost.Cost.algebra (standing (meant R.Cost.Cost.value (R.Register.holds register.now))) (R.Register.holds register.now).size (Some h) }
+    ensures beyond { Beyond (n * n) cells.old cells.new }
+    ensures back { Back R.Cost.Cost.algebra R.Cost.Cost.value n (standing (meant R.Cost.Cost.value (R.Register.holds register.now))) cells.new h }
+{
+    let _ = solve_upto(register, cells, n, h);
+}
+
+// Writes into row 0 of the sheet a loop at `h` that undercuts the unit, where `h` is what `solve` answered.
 pub fn write_loop<R: Register>(
     register: &R,
     cells: &mut [Cell<R::Cost>],
@@ -123,7 +135,7 @@ pub fn write_loop<R: Register>(
     ensures written { LoopWritten R.Cost.Cost.algebra (standing (meant R.Cost.Cost.value (R.Register.holds register.now))) h chains.old chains.new }
 {
     let n = register.size();
-    let _ = solve_upto(register, cells, n, h);
+    solve_back(register, cells, n, h);
     let mut next = [0; MOST_FORMATS];
     trace(cells, n, h, ticks, &mut next);
     let from = way_out(register, cells, n, h);

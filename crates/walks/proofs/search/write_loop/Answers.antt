@@ -4,48 +4,40 @@ use Rattle.registers.specs.Meaning.{meant}
 use Rattle.walks.specs.Walk.{path}
 use Rattle.walks.specs.Cells.{Beyond}
 use Rattle.walks.proofs.Restrict.{standing_inside}
-use Rattle.walks.proofs.Turning.{solved_back, back_calm, back_least, turns_near, turns_some, turns_loop}
+use Rattle.walks.proofs.Turning.{back_calm, back_least, turns_some, turns_loop}
 use Rattle.walks.proofs.search.write_loop.Goals as goal
 
 pub trace-requires : goal.trace-requires
 trace-requires g c =
-    let back = solved_back g.met.R.Cost.Cost.lawful g.R.Cost.Cost.value (g.R.Register.holds c.args.register.now) _ _ _ _
-    c.size-n.ensures.value c.size-n.ensures.bounds.1 c.requires.found c.solve_upto.ensures.sound c.solve_upto.ensures.solved in
+    let L = g.met.R.Cost.Cost.lawful in
+    let back = c.solve_back.ensures.back in
     record {
       laid = back.settled.laid;
       few = back.few;
       inside = back.inside;
-      calm = back_calm g.met.R.Cost.Cost.lawful _ _ _ _ _ back;
-      least = back_least g.met.R.Cost.Cost.lawful _ _ _ _ _ back;
+      calm = back_calm L _ _ _ _ _ back;
+      least = back_least L _ _ _ _ _ back;
       clear = c.requires.clear;
     }
 
 pub way_out-from-requires : goal.way_out-from-requires
 way_out-from-requires g c =
-    let L = g.met.R.Cost.Cost.lawful in
     let m = meant g.R.Cost.Cost.value (g.R.Register.holds c.args.register.now) in
-    let back = solved_back g.met.R.Cost.Cost.lawful g.R.Cost.Cost.value (g.R.Register.holds c.args.register.now) _ _ _ _
-    c.size-n.ensures.value c.size-n.ensures.bounds.1 c.requires.found c.solve_upto.ensures.sound c.solve_upto.ensures.solved in
-    record {
-      homeward = record { room = back.settled.laid.room; few = back.few; inside = back.inside; near = turns_near L _ _ _ _ _ back };
-      some = turns_some L _ _ _ _ _ back (λ x e. (standing_inside m c.args.h c.args.h x e).2 refl) c.requires.found.1;
-    }
+    let back = c.solve_back.ensures.back in
+    record { back = back; some = turns_some g.met.R.Cost.Cost.lawful _ _ _ _ _ back (λ x e. (standing_inside m c.args.h c.args.h x e).2 refl) c.requires.found.1 }
 
 pub write_round-requires : goal.write_round-requires
 write_round-requires g c =
-    let back = solved_back g.met.R.Cost.Cost.lawful g.R.Cost.Cost.value (g.R.Register.holds c.args.register.now) _ _ _ _
-    c.size-n.ensures.value c.size-n.ensures.bounds.1 c.requires.found c.solve_upto.ensures.sound c.solve_upto.ensures.solved in
+    let back = c.solve_back.ensures.back in
     let loop = turns_loop g.met.R.Cost.Cost.lawful _ _ _ _ _ back c.trace.new.next _ c.way_out-from.ensures c.trace.ensures.traced in
     record { room = c.requires.row; leads = loop.4; inside = omega (arith, back.inside, back.few) }
 
 pub returns : goal.returns
 returns g c =
-    let back = solved_back g.met.R.Cost.Cost.lawful g.R.Cost.Cost.value (g.R.Register.holds c.args.register.now) _ _ _ _
-    c.size-n.ensures.value c.size-n.ensures.bounds.1 c.requires.found c.solve_upto.ensures.sound c.solve_upto.ensures.solved in
-    let loop = turns_loop g.met.R.Cost.Cost.lawful _ _ _ _ _ back c.trace.new.next _ c.way_out-from.ensures c.trace.ensures.traced in
+    let loop = turns_loop g.met.R.Cost.Cost.lawful _ _ _ _ _ c.solve_back.ensures.back c.trace.new.next _ c.way_out-from.ensures c.trace.ensures.traced in
     let from = c.way_out-from.result in
     record {
       clear = c.trace.ensures.clear;
-      beyond = subst (λ k. Beyond (k * k) c.args.cells.now c.solve_upto.new.cells) c.size-n.ensures.value c.solve_upto.ensures.beyond;
+      beyond = subst (λ k. Beyond (k * k) c.args.cells.now c.solve_back.new.cells) c.size-n.ensures.value c.solve_back.ensures.beyond;
       written = (from ∷ loop.0, loop.1, loop.2, c.write_round.ensures.written (path from loop.0 c.args.h) loop.3);
     }
