@@ -10,3 +10,6 @@ undercut_unit-requires g c =
     let back = c.requires.back in
     rw c.cell_at.ensures (near_joinable kind.algebra c.args.n _ _ (omega (arith, back.few))
     (card_near L kind.value c.args.n _ back.few c.card.ensures.admitted) (turns_near L _ _ _ _ _ back c.args.v c.requires.lower))
+
+pub returns : goal.returns
+returns g c = rw (c.card.ensures.value, c.cell_at.ensures) at c.undercut_unit.ensures
