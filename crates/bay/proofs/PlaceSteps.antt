@@ -9,6 +9,8 @@ use Rattle.walks.specs.Sheet.{put_row, row_of}
 use Rattle.walks.proofs.Sheets.{length_put_row, length_row_of, row_at_put_row, row_at_put_row_other, get_or_put_row_above}
 use Rattle.bay.specs.Leg.{no_leg, noted}
 use Rattle.bay.specs.Legs.{booked}
+use Rattle.bay.specs.Lent.{SameLent}
+use Rattle.bay.specs.declared.writing.Page.{Page as LentPage}
 use Rattle.bay.specs.Places.{Blank, Done, EndsIn, Page, Room, Served, Spares, Written, page, place}
 use Rattle.bay.specs.Plain.{ends}
 use Rattle.bay.specs.Routes.{no_ends}
@@ -29,8 +31,9 @@ ends_at [] k = refl
 ends_at (leg ∷ legs) zero = refl
 ends_at (leg ∷ legs) (suc k) = ends_at legs k
 
-pub page_same : {C : Type 0} {l m : Legs} {xs ys : List C} {s t : List ℕ} → l ≡ m → xs ≡ ys → s ≡ t → page (booked l) xs s ≡ page (booked m) ys t
-page_same p q r i = page (booked (p i)) (q i) (r i)
+-- memory that is kept twice in a row is kept
+pub lent_then : {C : Type 0} (p q r : LentPage C) → SameLent p q → SameLent q r → SameLent p r
+lent_then p q r a b = (b.0 ∙ a.0, b.1 ∙ a.1, b.2 ∙ a.2)
 
 -- lists of one length that agree at a place do so at any default
 any_default : (xs ys : List ℕ) → length xs ≡ length ys → (j d : ℕ) → get_or xs j 0 ≡ get_or ys j 0 → get_or xs j d ≡ get_or ys j d

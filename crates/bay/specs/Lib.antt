@@ -8,3 +8,4 @@ pub mod Routing
 pub mod Runs
 pub mod OneByOne
 pub mod Places
+pub mod Lent

@@ -3,7 +3,7 @@ use crate::fault::BayFault;
 use crate::legs::Leg;
 use registers::Format;
 
-// A call with its arguments. `Route` works in the table and the sheets that are handed in with the list of calls.
+// A call with its arguments, as data: a host hands in a list of them and may keep it, so it is no closure. `Route` works in the table and the sheets that are handed in with the list of calls.
 #[derive(Clone, Copy, Debug, PartialEq, Eq)]
 pub enum Call<C> {
     Enter { from: Format, to: Format, cost: C },

@@ -32,7 +32,7 @@ pub struct Leg {
     pub note: Note,
 }
 
-// The legs by number; the array beyond `count` is of no account.
+// The legs by number; the array beyond `count` is of no account. A plain struct, so that a bay has no heap and is moved whole.
 #[derive(Clone, Copy)]
 pub struct Legs {
     pub list: [Leg; MOST_LEGS],

@@ -1,4 +1,6 @@
-// The bay: converter cards of a register, and the legs that are to be routed over them.
+// The bay: converter cards of a register, and the legs that are to be routed over them. Functions that ask something of their
+// caller by a `requires`, as `push`, `remove` and `set_note` of the legs, serve the crate alone; what is public may always be
+// called.
 #![tactic(auto)]
 
 mod bays;

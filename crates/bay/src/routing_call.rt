@@ -10,7 +10,7 @@ ghost use Rattle.bay.specs.Routing.{RouteAnswer};
 use crate::bays::Bay;
 use crate::fault::BayFault;
 use crate::judge::judge_room;
-use crate::writing::write_routes;
+use crate::writing::Page;
 use costs::Cost;
 use registers::{MOST_FORMATS, Register};
 use walks::{Cell, solve, write_loop};
@@ -24,7 +24,8 @@ impl<R: Register> Bay<R> {
     }
 
     // A chain of least cost for every leg, or a loop that undercuts the unit. Leg k has entry k of the cost sheet and row k of
-    // the chain sheet; it does not matter what the table and the sheets hold.
+    // the chain sheet; it does not matter what the table and the sheets hold. They are three arguments, since a host lends each as
+    // a slice.
     pub fn route(
         &mut self,
         table: &mut [Cell<R::Cost>],
@@ -44,7 +45,12 @@ impl<R: Register> Bay<R> {
                 Err(BayFault::Loop)
             }
             None => {
-                write_routes(&mut self.legs, n, table, &mut ticks, costs, chains);
+                let mut page = Page {
+                    legs: &mut self.legs,
+                    costs,
+                    chains,
+                };
+                page.write_routes(n, table, &mut ticks);
                 Ok(self.legs.len())
             }
         }

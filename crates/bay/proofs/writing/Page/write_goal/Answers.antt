@@ -1,0 +1,31 @@
+use Rattle.std.proofs.Common.{◌+◌, get_or, sym, ap, ◌∙◌, subst, arith}
+use Rattle.walks.specs.Cells.{cards_in}
+use Rattle.bay.specs.Leg.{no_leg}
+use Rattle.bay.specs.Lent.{SameLent, page_of}
+use Rattle.bay.proofs.PlaceSteps.{Serving, lent_then, same_number, serving_passes, serving_more}
+use Rattle.bay.proofs.writing.Page.write_goal.Goals as goal
+use Rattle.bay.proofs.writing.Page.write_goal.Goals.{then-leg-goal, else-leg-goal}
+
+pub loop-k-preserved : goal.loop-k-preserved
+loop-k-preserved g c =
+    let (serving, lent) = c.loop-k.invariant in
+    let before = page_of c.args.self.now in
+    let now = page_of c.loop-k.self in
+    let card = cards_in g.C.Cost.algebra g.C.Cost.value c.args.n c.args.table.now in
+    let same = ap (λ legs. (get_or legs c.loop-k.k no_leg).to) (sym c.as_slice.ensures) in
+    elim c.if-leg-goal.branch [
+      | then-leg-goal w ↦
+          let told = w.write_leg.ensures in
+          subst (λ p. Serving g.C.Cost.algebra g.C.Cost.value card c.args.next.now c.args.goal before (page_of p) (c.loop-k.k + 1) × SameLent c.args.self.now p) (sym w.self-is) (
+            serving_more g.C.Cost.algebra g.C.Cost.value card c.args.next.now c.args.goal before now c.loop-k.k serving (page_of w.write_leg.new.self) (same ∙ w.if-leg-goal.true) told.done.written told.done.others told.done.done,
+            lent_then c.args.self.now c.loop-k.self w.write_leg.new.self lent told.lent,
+          )
+      | else-leg-goal w ↦
+          subst (λ p. Serving g.C.Cost.algebra g.C.Cost.value card c.args.next.now c.args.goal before (page_of p) (c.loop-k.k + 1) × SameLent c.args.self.now p) (sym w.self-is) (
+            serving_passes g.C.Cost.algebra g.C.Cost.value card c.args.next.now c.args.goal before now c.loop-k.k serving (λ e. w.if-leg-goal.false (sym same ∙ e)),
+            lent,
+          )
+    ]
+
+pub returns-clause-served : goal.returns-clause-served
+returns-clause-served g c = λ k lt. c.loop-k.invariant.0.done k (omega (arith, same_number (page_of c.args.self.now) (page_of c.loop-k.self) c.loop-k.invariant.0.written, c.len-k-end.ensures.value))
