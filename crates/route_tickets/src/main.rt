@@ -11,8 +11,8 @@ use std::io::{Read, Write};
 use ticket_call::{Ends, MOST_BYTES, MOST_CODES, MOST_LEGS, Shared, Sheets, TICKET_ENTRIES};
 use walks::{Cell, ROW};
 
-// As many cells as a register of the most formats wants.
-const CELLS: usize = 4096;
+// As many cells as a register of the most formats wants: each format has a code.
+const CELLS: usize = MOST_CODES * MOST_CODES;
 
 // As many bytes as the rows of the most legs have.
 const CHAIN_BYTES: usize = ROW * MOST_LEGS;
