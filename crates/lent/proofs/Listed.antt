@@ -10,10 +10,10 @@ use Rattle.std.proofs.lemmas.Bool.{and_parts, and_from, both_ways, false≢true,
 use Rattle.lent.specs.declared.list.Entry.{Entry}
 use Rattle.registers.specs.Fault.{first_cause, code}
 use Rattle.registers.specs.declared.fault.Layer.TheVariants.{Register}
-use Rattle.registers.specs.Meaning.{meant, possible, put, standing, entered, withdrawn, enter_causes, withdraw_causes}
+use Rattle.registers.specs.Meaning.{meant, possible, put, standing, entered, withdrawn, enter_causes}
 use Rattle.lent.specs.Lent.{size_fits, nearest_size, how_many, begun}
 use Rattle.lent.specs.List.{or_else, live, cost_of, cost_for, first_cost, entries_fit, list_fits, list_card, listed, list_cleared, without, Free, Writable, Full}
-use Rattle.registers.proofs.Meanings.{same_meaning, possible_parts, possible_ends, is_some_mapped, stands, enter_granted, enter_full, enter_after, withdraw_granted, withdraw_after}
+use Rattle.registers.proofs.Meanings.{same_meaning, possible_parts, possible_ends, is_some_mapped, stands, enter_granted, enter_full, enter_after, withdraw_after}
 use Rattle.lent.proofs.Totals.{bit, how_many_put, how_many_none}
 use Rattle.lent.proofs.Matrices.{nearest_fitting, place_row, place_column}
 
@@ -376,18 +376,12 @@ module _ {C V : Type 0} (v : C → V) (admits : C → Bool) (n : ℕ) (es : List
     stood : is_some (list_card admits n es a b) ≡ true
     stood = sym (stands v (listed admits n es) (listed admits n es) a b ends) ∙ sym (ap is_some value) ∙ is_some_mapped v r ∙ had
 
-    list_withdraw_answer : None ≡ first_cause (withdraw_causes (meant v (listed admits n es)) a b)
-    list_withdraw_answer = withdraw_granted v (listed admits n es) (listed admits n es) a b ends unsealed stood
-
-    list_withdraw_after : meant v (listed admits n (without admits n a b es)) ≡ withdrawn (meant v (listed admits n es)) a b
+    pub list_withdraw_after : meant v (listed admits n (without admits n a b es)) ≡ withdrawn (meant v (listed admits n es)) a b
     list_withdraw_after =
         let next = without admits n a b es in
         let long = length-map es (λ e. cond (is_some (cost_for admits n e a b)) None e) in
         let is = first_without admits n a b es in
         withdraw_after v (listed admits n es) (listed admits n next) a b ends refl (next_cards next long None is) (next_sealed next long None is) (next_withdrawn next long None is refl stood)
-
-    pub list_withdrawn : (None ≡ first_cause (withdraw_causes (meant v (listed admits n es)) a b)) × (meant v (listed admits n (without admits n a b es)) ≡ withdrawn (meant v (listed admits n es)) a b)
-    list_withdrawn = (list_withdraw_answer, list_withdraw_after)
 
 -- a list in cleared memory
 pub list_begins : {C : Type 0} (admits : C → Bool) (n : ℕ) (es : List (Option (Entry C))) → listed admits n (list_cleared n es) ≡ begun n (list_fits n (length es)) (length es)

@@ -6,10 +6,10 @@ use Rattle.std.proofs.lemmas.Nat.{mul-add-lt, div-mul-add, mod-mul-add}
 use Rattle.std.proofs.lemmas.List.{length-set, length-take-le, length-append, length-drop, length-replicate, get_or-set_same, get_or-set_other, get_or_append_left, get_or-replicate}
 use Rattle.std.proofs.lemmas.Bool.{and_parts, and_from, both_ways, cond-true, eqb-true, leb-true, eq-eqb}
 use Rattle.registers.specs.Fault.{first_cause}
-use Rattle.registers.specs.Meaning.{meant, possible, put, standing, entered, withdrawn, enter_causes, withdraw_causes}
+use Rattle.registers.specs.Meaning.{meant, possible, put, standing, entered, withdrawn, enter_causes}
 use Rattle.lent.specs.Lent.{size_fits, nearest_size, how_many, begun, readable}
 use Rattle.lent.specs.Matrix.{matrix_fits, matrix_card, matrix, matrix_cleared}
-use Rattle.registers.proofs.Meanings.{same_meaning, possible_parts, possible_ends, is_some_mapped, stands, enter_granted, enter_after, withdraw_granted, withdraw_after}
+use Rattle.registers.proofs.Meanings.{same_meaning, possible_parts, possible_ends, is_some_mapped, stands, enter_granted, enter_after, withdraw_after}
 use Rattle.lent.proofs.Totals.{bit, how_many_put, how_many_bound, how_many_none}
 
 pub fitting_size : (n : ℕ) → size_fits n ≡ true → (2 ≤ n) × (n ≤ 64)
@@ -192,15 +192,9 @@ module _ {C V : Type 0} (v : C → V) (admits : C → Bool) (n : ℕ) (places : 
     stood : is_some (matrix_card admits n places a b) ≡ true
     stood = sym (stands v (matrix admits n places) (matrix admits n places) a b ends) ∙ sym (ap is_some is) ∙ is_some_mapped v r ∙ had
 
-    matrix_withdraw_answer : None ≡ first_cause (withdraw_causes (meant v (matrix admits n places)) a b)
-    matrix_withdraw_answer = withdraw_granted v (matrix admits n places) (matrix admits n places) a b ends unsealed stood
-
-    matrix_withdraw_after : meant v (matrix admits n (set places (a * n + b) None)) ≡ withdrawn (meant v (matrix admits n places)) a b
+    pub matrix_withdraw_after : meant v (matrix admits n (set places (a * n + b) None)) ≡ withdrawn (meant v (matrix admits n places)) a b
     matrix_withdraw_after =
         withdraw_after v (matrix admits n places) (matrix admits n (set places (a * n + b) None)) a b ends refl
         (card_set admits n places (sym fits) a b good.0 good.1 good.2 None)
         (λ c d. ap (λ k. not (matrix_fits n k)) (length-set places (a * n + b) None))
         (withdrawn_free admits n places (sym fits) a b good.0 good.1 good.2 None refl stood)
-
-    pub matrix_withdrawn : (None ≡ first_cause (withdraw_causes (meant v (matrix admits n places)) a b)) × (meant v (matrix admits n (set places (a * n + b) None)) ≡ withdrawn (meant v (matrix admits n places)) a b)
-    matrix_withdrawn = (matrix_withdraw_answer, matrix_withdraw_after)

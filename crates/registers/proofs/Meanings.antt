@@ -4,7 +4,7 @@ use Rattle.std.specs.Option.{option_map}
 use Rattle.std.proofs.lemmas.Bool.{and_parts, not-true, ltb-true, eqb-false, lt-ltb, ne_eqb, eq-eqb}
 use Rattle.registers.specs.Fault.{first_cause, code}
 use Rattle.registers.specs.declared.fault.Layer.TheVariants.{Register}
-use Rattle.registers.specs.Meaning.{Meaning, meant, possible, standing, put, entered, withdrawn, enter_causes, withdraw_causes}
+use Rattle.registers.specs.Meaning.{Meaning, meant, possible, standing, put, entered, withdrawn, enter_causes}
 
 pub same_meaning : {V : Type 0} (m k : Meaning V) → m.size ≡ k.size → ((a b : ℕ) → m.cards a b ≡ k.cards a b) → ((a b : ℕ) → m.sealed a b ≡ k.sealed a b) → m.free ≡ k.free → m ≡ k
 same_meaning m k n c s f = λ i. record { size = n i; cards = λ a b. c a b i; sealed = λ a b. s a b i; free = f i }
@@ -46,11 +46,6 @@ module _ {C V : Type 0} (v : C → V) (m k : Meaning C) (a b : ℕ) (ends : poss
   enter_full unsealed new none =
       let h = possible_parts m.size a b ends in
       rw (lt-ltb a m.size h.0, lt-ltb b m.size h.1, ne_eqb a b h.2, unsealed, is_some_mapped v (m.cards a b), new, eq-eqb m.free 0 none)
-
-  pub withdraw_granted : m.sealed a b ≡ false → is_some (m.cards a b) ≡ true → None ≡ first_cause (withdraw_causes (meant v m) a b)
-  withdraw_granted unsealed held =
-      let h = possible_parts m.size a b ends in
-      rw (lt-ltb a m.size h.0, lt-ltb b m.size h.1, ne_eqb a b h.2, unsealed, is_some_mapped v (m.cards a b), held)
 
   pub enter_after : (x : C) → k.size ≡ m.size → ((c d : ℕ) → k.cards c d ≡ put m.cards a b (Some x) c d) → ((c d : ℕ) → k.sealed c d ≡ m.sealed c d) → k.free ≡ cond (is_some (m.cards a b)) m.free (m.free - 1) → meant v k ≡ entered (meant v m) a b (v x)
   enter_after x n c s f =

@@ -2,17 +2,11 @@ use Rattle.std.proofs.Common.{sym, ◌∙◌}
 use Rattle.registers.specs.Meaning.{meant}
 use Rattle.lent.specs.List.{listed}
 use Rattle.lent.specs.Lent.{admitted_by}
-use Rattle.lent.proofs.Listed.{list_withdrawn}
+use Rattle.lent.proofs.Listed.{list_withdraw_after}
 use Rattle.lent.proofs.list.ListRegister.withdraw.Goals as goal
 
-pub returns : goal.returns
-returns g c =
-    let done = list_withdrawn g.C.Cost.value (admitted_by g.C.Cost.algebra g.C.Cost.value) c.args.self.now.n c.args.self.now.entries.now c.args.from c.args.to _ c.size.ensures.value (sym c.in_ok-judge_ends.ensures.fine) c.if-not-list_fits.ensures c.card.result c.card.ensures.value c.if-is_none.ensures in
+pub returns-clause-after : goal.returns-clause-after
+returns-clause-after g c =
     let left = c.remove.ensures in
-    record {
-      answer = done.0;
-      after = (λ i. meant g.C.Cost.value (listed (admitted_by g.C.Cost.algebra g.C.Cost.value) (left.size i) (left.memory i))) ∙ done.1;
-      memory = left.memory;
-      size = left.size;
-      lent = left.lent;
-    }
+    let done = list_withdraw_after g.C.Cost.value (admitted_by g.C.Cost.algebra g.C.Cost.value) c.args.self.now.n c.args.self.now.entries.now c.args.from c.args.to _ c.size.ensures.value (sym c.in_ok-judge_ends.ensures.fine) c.if-not-list_fits.ensures c.card.result c.card.ensures.value c.if-is_none.ensures in
+    (λ i. meant g.C.Cost.value (listed (admitted_by g.C.Cost.algebra g.C.Cost.value) (left.size i) (left.memory i))) ∙ done
