@@ -1,10 +1,8 @@
--- What the methods of the legs do to the list that is held, the first `count` of the array: by places of the array, and
--- at the end as one equation.
-use Rattle.std.proofs.Common.{◌≡◌, ℕ, suc, ◌+◌, ◌-◌, ◌<◌, ◌≤◌, List, ◌++◌, length, get_or, take, drop, set, sym, ap, ◌∙◌, subst, ⊎_elim, add-one, arith, length-append, length-drop, length-take-le, get_or-take}
+-- What the methods of the legs do to the list that is held, the first `count` of the array.
+use Rattle.std.proofs.Common.{◌≡◌, ℕ, suc, ◌+◌, ◌-◌, ◌<◌, ◌≤◌, List, ◌++◌, length, get_or, take, drop, sym, ap, ◌∙◌, subst, add-one, arith, length-append, length-drop, length-take-le, get_or-take}
 use lib.ListN.{length-map}
 use Rattle.std.proofs.lemmas.List.Edits.{take-paste}
-use Rattle.std.proofs.lemmas.List.{drop-take, same_lists, get_or-map, get_or_append_left, get_or_default, get_or-set_same, get_or-set_other, take-take}
-use Rattle.std.proofs.lemmas.Bool.{cases_eq}
+use Rattle.std.proofs.lemmas.List.{drop-take, same_lists, get_or-map, get_or_append_left, get_or_default, take-take}
 use Rattle.std.specs.List.{copy_within}
 use Rattle.bay.specs.declared.legs.Note.TheVariants.{Open}
 use Rattle.bay.specs.declared.legs.Leg.{Leg}
@@ -46,12 +44,3 @@ apart_opened n legs fits apart k lt =
     let is : get_or (opened (take n legs) ++ drop n legs) k no_leg ≡ noted Open (get_or legs k no_leg) =
     get_or_append_left (opened (take n legs)) (drop n legs) no_leg k (omega arith) ∙ get_or-map (noted Open) (take n legs) k no_leg no_leg (omega (arith, length-take-le n legs fits)) ∙ ap (noted Open) (get_or-take n legs k no_leg lt) in
     subst (λ l. l.from ≡ l.to → ⊥) (sym is) (apart k lt)
-
--- a leg with two different ends may be put anywhere
-pub apart_set : (n : ℕ) (legs : List Leg) (i : ℕ) (leg : Leg) → i < length legs → ((k : ℕ) → k < n → (k ≡ i → ⊥) → (get_or legs k no_leg).from ≡ (get_or legs k no_leg).to → ⊥) →
-    (leg.from ≡ leg.to → ⊥) → Apart n (set legs i leg)
-apart_set n legs i leg h others this k lt =
-    ⊎_elim
-    (λ e. subst (λ l. l.from ≡ l.to → ⊥) (sym (ap (λ j. get_or (set legs i leg) j no_leg) e ∙ get_or-set_same legs i leg no_leg h)) this)
-    (λ ne. subst (λ l. l.from ≡ l.to → ⊥) (sym (get_or-set_other legs i k leg no_leg ne)) (others k lt ne))
-    (cases_eq k i)

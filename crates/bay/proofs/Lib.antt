@@ -1,6 +1,5 @@
 pub mod LegSteps
 pub mod Granted
-pub mod LegCalls
 pub mod PlaceSteps
 pub mod RouteSteps
 pub mod RouteCall

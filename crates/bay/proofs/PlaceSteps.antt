@@ -2,29 +2,20 @@
 -- goal by goal.
 use Rattle.std.proofs.Common.{◌≡◌, ℕ, zero, suc, ◌+◌, ◌*◌, ◌<◌, ◌≤◌, List, [], ◌∷◌, map, length, get_or, set, Option, sym, refl, ap, ◌∙◌, subst, ⊎_elim, arith, length-set}
 use lib.ListN.{length-map}
-use Rattle.std.proofs.lemmas.List.{get_or_default, get_or_past, get_or-set_same, get_or-set_other, get_or-take, map-set, set-get_or}
+use Rattle.std.proofs.lemmas.List.{get_or_default, get_or_past, get_or-set_same, get_or-set_other, map-set, set-get_or}
 use Rattle.std.proofs.lemmas.Bool.{cases_lt, cases_eq}
 use Rattle.costs.specs.Algebra.{Algebra}
 use Rattle.walks.specs.Sheet.{put_row, row_of}
 use Rattle.walks.proofs.Sheets.{length_put_row, length_row_of, row_at_put_row, row_at_put_row_other, get_or_put_row_above}
 use Rattle.bay.specs.Leg.{no_leg, noted}
-use Rattle.bay.specs.Legs.{booked}
 use Rattle.bay.specs.Lent.{SameLent}
 use Rattle.bay.specs.declared.writing.Page.{Page as LentPage}
 use Rattle.bay.specs.Places.{Blank, Done, EndsIn, Page, Room, Served, Spares, Written, page, place}
 use Rattle.bay.specs.Plain.{ends}
 use Rattle.bay.specs.Routes.{no_ends}
 use Rattle.bay.specs.declared.legs.Leg.{Leg}
-use Rattle.bay.specs.declared.legs.Legs.{Legs}
 use Rattle.bay.specs.declared.legs.Note.{Note}
 use Rattle.bay.specs.declared.legs.Note.TheVariants.{NoChain}
-use Rattle.bay.proofs.LegSteps.{length_booked}
-
-pub leg_apart : (l : Legs) (k : ℕ) (leg : Leg) → k < length (booked l) → leg ≡ get_or (booked l) k no_leg → leg.from ≡ leg.to → ⊥
-leg_apart l k leg h is e =
-    let lt : k < l.count = omega (arith, length_booked l) in
-    let same = is ∙ get_or-take l.count l.list k no_leg lt in
-    l.apart k lt (ap (λ o. o.from) (sym same) ∙ e ∙ ap (λ o. o.to) same)
 
 pub ends_at : (legs : List Leg) (k : ℕ) → ends (get_or legs k no_leg) ≡ get_or (map ends legs) k no_ends
 ends_at [] k = refl
@@ -109,9 +100,6 @@ module _ (A : Algebra) {C : Type 0} (value : C → A.Value) where
   abbrev pub Cleared : Page C → Page C → ℕ → Type 0
   Cleared before now i = Written before now × ((k : ℕ) → k < i → Blank A value (place now k))
 
-  pub cleared_none : (p : Page C) → Cleared p p 0
-  cleared_none p = (written_none p, λ k lt. absurd (omega arith))
-
   pub cleared_more : (before p : Page C) (i : ℕ) → i < length p.legs → Room p → Cleared before p i → (x : C) → value x ≡ A.unit → (legs : List Leg) (chains : List ℕ) →
       legs ≡ set p.legs i (noted NoChain (get_or p.legs i no_leg)) → chains ≡ put_row p.chains i (row_of []) → Cleared before (page legs (set p.costs i x) chains) (i + 1)
   cleared_more before p i inside room (w, done) x unit legs chains el ec =
@@ -133,9 +121,6 @@ module _ (A : Algebra) {C : Type 0} (value : C → A.Value) where
       pub onward : (k : ℕ) → i ≤ k → place now k ≡ place before k
       pub spares : Spares goal before now
       pub done : (k : ℕ) → k < i → EndsIn now k goal → Done A value card next (place now k)
-
-    pub serving_none : (next : List ℕ) (goal : ℕ) (p : Page C) → Serving next goal p p 0
-    serving_none next goal p = record { written = written_none p; onward = λ k le. refl; spares = λ k ne. refl; done = λ k lt. absurd (omega arith) }
 
     module _ (next : List ℕ) (goal : ℕ) (before now : Page C) (i : ℕ) (s : Serving next goal before now i) where
       pub serving_passes : (EndsIn now i goal → ⊥) → Serving next goal before now (i + 1)
@@ -166,9 +151,6 @@ module _ (A : Algebra) {C : Type 0} (value : C → A.Value) where
       pub written : Written before now
       pub later : (k : ℕ) → k < length now.legs → goal ≤ (get_or now.legs k no_leg).to → Blank A value (place now k)
       pub served : (t : ℕ) → t < goal → (next : List ℕ) × Served A value card next t now
-
-    pub progress_none : (before now : Page C) → Written before now → ((k : ℕ) → k < length now.legs → Blank A value (place now k)) → Progress before now 0
-    progress_none before now w blank = record { written = w; later = λ k lt le. blank k lt; served = λ t lt. absurd (omega arith) }
 
     -- what was written before the first goal counts too
     pub progress_since : (p before now : Page C) (goal : ℕ) → Written p before → Progress before now goal → Progress p now goal

@@ -1,5 +1,5 @@
 -- What the route call is owed: the room that its first causes leave, the loop in row 0, and the granted route.
-use Rattle.std.proofs.Common.{◌≡◌, ℕ, ◌*◌, ◌<◌, ◌≤◌, Bool, true, false, cond, eqb, ltb, List, [], ◌∷◌, map, length, get_or, Some, None, Option, sym, refl, ap, ◌∙◌, subst, ⊎_elim, arith, length-append}
+use Rattle.std.proofs.Common.{◌≡◌, ℕ, ◌*◌, ◌<◌, ◌≤◌, Bool, true, false, cond, eqb, ltb, List, [], ◌∷◌, map, length, get_or, Some, None, Option, sym, refl, ap, ◌∙◌, ⊎_elim, arith, length-append}
 use lib.ListN.{length-map}
 use Rattle.std.proofs.lemmas.List.{get_or_default, get_or-map, get_or_past}
 use Rattle.std.proofs.lemmas.Bool.{cases_lt, eqb-false, ltb-false}
@@ -10,11 +10,11 @@ use Rattle.walks.proofs.Cut.{distinct_few}
 use Rattle.walks.proofs.Loops.{runs_inside}
 use Rattle.walks.proofs.Runs.{to_runs}
 use Rattle.walks.proofs.Sheets.{get_or_put_row_above, length_put_row, length_row_of, row_at_put_row}
-use Rattle.walks.specs.Cells.{cards_in, Each, Laid}
+use Rattle.walks.specs.Cells.{cards_in}
 use Rattle.walks.specs.Sheet.{row_at, row_of}
 use Rattle.walks.specs.Solved.{LoopWritten, Settled}
 use Rattle.walks.specs.Theorems.{Sound}
-use Rattle.walks.specs.Walk.{path, Gains, Least, Loop}
+use Rattle.walks.specs.Walk.{path, Loop}
 use Rattle.walks.specs.declared.cells.Cell.{Cell}
 use Rattle.bay.specs.Leg.{no_leg, noted}
 use Rattle.bay.specs.Plain.{ends, room_causes}
@@ -73,15 +73,6 @@ module _ {A : Algebra} (L : Lawful A) (card : ℕ → ℕ → Option A.Value) (n
 module _ {A : Algebra} {C : Type 0} (value : C → A.Value) (n m : ℕ) (size : m ≡ n) (card : ℕ → ℕ → Option A.Value) (cells : List (Cell C)) (s : Settled A value n card cells) where
   pub settled_cards : cards_in A value m cells ≡ card
   settled_cards = ap (λ k. cards_in A value k cells) size ∙ s.cards
-
-  pub settled_laid : Laid A value m cells
-  settled_laid = subst (λ k. Laid A value k cells) (sym size) s.laid
-
-  pub settled_calm : Gains A (cards_in A value m cells) → ⊥
-  settled_calm = subst (λ k. Gains A k → ⊥) (sym settled_cards) s.calm
-
-  pub settled_least : Each A value m cells (λ a b. Least A (cards_in A value m cells) a b)
-  settled_least = subst (λ k. Each A value m cells (λ a b. Least A k a b)) (sym settled_cards) (subst (λ k. Each A value k cells (λ a b. Least A card a b)) (sym size) s.least)
 
 -- legs that differ only in their notes have the same ends
 pub ends_renoted : (legs now : List Leg) (note : ℕ → Note) → length now ≡ length legs → ((k : ℕ) → k < length legs → get_or now k no_leg ≡ noted (note k) (get_or legs k no_leg)) → map ends now ≡ map ends legs

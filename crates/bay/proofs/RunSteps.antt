@@ -1,5 +1,5 @@
 -- A list of calls grows by one call and its answer: the law over the run, and what the run leaves.
-use Rattle.std.proofs.Common.{◌≡◌, ℕ, ◌+◌, ◌*◌, ◌<◌, ◌≤◌, List, [], ◌∷◌, ◌++◌, length, get_or, take, Some, None, Option, sym, refl, ap, ◌∙◌, subst, subst₂, ⊎_elim, arith, length-append, take_all}
+use Rattle.std.proofs.Common.{◌≡◌, ℕ, ◌+◌, ◌*◌, ◌<◌, ◌≤◌, List, [], ◌∷◌, ◌++◌, length, get_or, take, Some, None, Option, sym, refl, ap, ◌∙◌, subst, subst₂, ⊎_elim, arith, length-append}
 use lib.Seq.{get_or-append_seam, take-append-le}
 use Rattle.std.proofs.lemmas.List.{get_or_append_left, take_at, take_more}
 use Rattle.std.proofs.lemmas.List.Sums.{fold_push}
@@ -67,10 +67,6 @@ module _ (A : Algebra) {C : Type 0} (value : C → A.Value) where
     chains = refl;
   }
 
-  -- a call that was not made leaves the run as it was
-  pub run_kept : (p q q' : Plain A.Value) (before now later : Desk C) (calls : List (Call C)) (answers : List (Answer C)) → q' ≡ q → later ≡ now → RunDone A value p q before now calls answers → RunDone A value p q' before later calls answers
-  run_kept p q q' before now later calls answers e f run = subst₂ (λ x y. RunDone A value p x before y calls answers) (sym e) (sym f) run
-
   after_size : (v : Option Code) (p q : Plain A.Value) → q.register.size ≡ p.register.size → (after v p q).register.size ≡ p.register.size
   after_size None p q e = e
   after_size (Some c) p q e = refl
@@ -121,6 +117,3 @@ module _ (A : Algebra) {C : Type 0} (value : C → A.Value) where
   -- where there was no room for an answer, no call was made
   pub run_unmade : (p : Plain A.Value) (before : Desk C) (calls : List (Call C)) (answers : List (Answer C)) → answers ≡ [] → RunDone A value p p before before (take (length answers) calls) answers
   run_unmade p before calls answers e = subst (λ xs. RunDone A value p p before before (take (length xs) calls) xs) (sym e) (run_none p before)
-
-  pub run_ends : (p q : Plain A.Value) (before now : Desk C) (calls : List (Call C)) (i : ℕ) (answers : List (Answer C)) → length calls ≤ i → RunDone A value p q before now (take i calls) answers → RunDone A value p q before now calls answers
-  run_ends p q before now calls i answers h run = subst (λ cs. RunDone A value p q before now cs answers) (take_all i calls h) run

@@ -12,46 +12,24 @@ use Rattle.bay.specs.Plain.{ends}
 use Rattle.bay.specs.Routes.{Routed, note_of}
 use Rattle.bay.specs.Routing.{Beyond, Desk, Granted, RouteAnswer}
 use Rattle.bay.proofs.Granted.{ends_opened}
-use Rattle.bay.proofs.RouteCall.{room_enough, loop_in_row, settled_cards, settled_laid, settled_calm, settled_least, ends_renoted}
+use Rattle.bay.proofs.RouteCall.{room_enough, loop_in_row, settled_cards, ends_renoted}
 use Rattle.bay.proofs.bays.Bay.route.Goals as goal
 
-pub write_loop-requires : goal.write_loop-requires
-write_loop-requires g c =
-    let enough = room_enough (length (map ends (booked c.args.self.now.legs))) (g.R.Register.holds c.args.self.now.register).size (length c.args.table.now) (length c.args.costs.now) (length c.args.chains.now) c.in_ok-judge_route.ensures in
-    let told = c.in-Some.ensures in
-    record {
-      room = omega (arith, enough.table, told.beyond.long);
-      found = told.solved;
-      clear = none_ticked 64;
-      row = omega (arith, enough.rows, enough.some);
-    }
+pub write_loop-requires-clause-clear : goal.write_loop-requires-clause-clear
+write_loop-requires-clause-clear g c = none_ticked 64
 
-pub write_routes-requires : goal.write_routes-requires
-write_routes-requires g c =
-    let legs = booked c.args.self.now.legs in
-    let enough = room_enough (length (map ends (booked c.args.self.now.legs))) (g.R.Register.holds c.args.self.now.register).size (length c.args.table.now) (length c.args.costs.now) (length c.args.chains.now) c.in_ok-judge_route.ensures in
-    let size = c.size-n.ensures.value in
-    let value = g.R.Cost.Cost.value in
-    let settled = c.in-None.ensures.solved in
-    record {
-      laid = settled_laid value _ _ size _ _ settled;
-      few = c.size-n.ensures.bounds.1;
-      calm = settled_calm value _ _ size _ _ settled;
-      least = settled_least value _ _ size _ _ settled;
-      clear = none_ticked 64;
-      room = record { entries = omega (arith, enough.costs, length-map legs ends); rows = omega (arith, enough.rows, length-map legs ends) };
-    }
+pub write_routes-requires-clause-clear : goal.write_routes-requires-clause-clear
+write_routes-requires-clause-clear g c = none_ticked 64
 
 pub returns-in-Some : goal.returns-in-Some
 returns-in-Some g c =
     let legs = booked c.args.self.now.legs in
     let n = (g.R.Register.holds c.args.self.now.register).size in
-    let enough = room_enough (length (map ends (booked c.args.self.now.legs))) (g.R.Register.holds c.args.self.now.register).size (length c.args.table.now) (length c.args.costs.now) (length c.args.chains.now) c.in_ok-judge_route.ensures in
+    let enough = room_enough (length (map ends legs)) n (length c.args.table.now) (length c.args.costs.now) (length c.args.chains.now) c.in_ok-judge_route.ensures in
     let told = c.in-Some.ensures in
     let few : n ≤ 64 = omega (arith, c.size-n.ensures.value, c.size-n.ensures.bounds.1) in
     let row = loop_in_row g.met.R.Cost.Cost.lawful (standing (meant g.R.Cost.Cost.value (g.R.Register.holds c.args.self.now.register))) n told.sound few c.in-Some.h
     c.args.chains.now c.write_loop.new.chains (omega (arith, enough.rows, enough.some)) c.write_loop.ensures.written in
-    let opened-legs = c.open_all.ensures in
     record {
       answer = inr (inl (record {
         no_cause = sym c.in_ok-judge_route.ensures;
@@ -59,10 +37,10 @@ returns-in-Some g c =
         loop = row.0;
         chains = row.1;
         costs = refl;
-        legs = opened-legs;
+        legs = c.open_all.ensures;
         table = beyond_then (n * n) c.args.table.now c.solve.new.cells c.write_loop.new.cells told.beyond c.write_loop.ensures.beyond;
       }));
-      same = λ i. record { register = meant g.R.Cost.Cost.value (g.R.Register.holds c.args.self.now.register); legs = (ap (map ends) opened-legs ∙ ends_opened legs) i };
+      same = λ i. record { register = meant g.R.Cost.Cost.value (g.R.Register.holds c.args.self.now.register); legs = (ap (map ends) c.open_all.ensures ∙ ends_opened legs) i };
     }
 
 -- what is known of a page's sheets holds of what was lent for them

@@ -2,7 +2,7 @@
 use Rattle.std.proofs.Common.{vec_items, arith}
 use Rattle.bay.specs.Bays.{plain}
 use Rattle.bay.specs.Legs.{booked}
-use Rattle.bay.proofs.RunSteps.{run_begins, run_ends, run_turn, run_unmade}
+use Rattle.bay.proofs.RunSteps.{run_begins, run_turn, run_unmade}
 use Rattle.bay.proofs.bays.Bay.run.Goals as goal
 
 pub loop-call-init : goal.loop-call-init
@@ -25,11 +25,6 @@ loop-call-preserved g c =
           (record { legs = booked c.args.self.now.legs; table = c.args.table.now; costs = c.args.costs.now; chains = c.args.chains.now }) (record { legs = booked c.loop-call.self.legs; table = c.loop-call.table; costs = c.loop-call.costs; chains = c.loop-call.chains }) (record { legs = booked c.call.new.self.legs; table = c.call.new.table; costs = c.call.new.costs; chains = c.call.new.chains }) c.args.calls.now c.loop-call.call-index (vec_items c.loop-call.answers) (vec_items c.push_reserved.new.self) c.call-item.result c.in-Ok-call.answer
           c.loop-call-test.true c.call-item.is pushed.items c.loop-call.auto.costs c.loop-call.auto.chains inv.3 c.in-Ok-call.ensures,
     )
-
-pub returns : goal.returns
-returns g c =
-    run_ends g.R.Cost.Cost.algebra g.R.Cost.Cost.value (plain g.R.Cost.Cost.algebra g.R.Cost.Cost.value g.R.Register.holds c.args.self.now) (plain g.R.Cost.Cost.algebra g.R.Cost.Cost.value g.R.Register.holds c.loop-call.self) (record { legs = booked c.args.self.now.legs; table = c.args.table.now; costs = c.args.costs.now; chains = c.args.chains.now }) (record { legs = booked c.loop-call.self.legs; table = c.loop-call.table; costs = c.loop-call.costs; chains = c.loop-call.chains }) c.args.calls.now c.loop-call.call-index (vec_items c.loop-call.answers)
-    c.loop-call-test.false c.loop-call.invariant.3
 
 pub returns-in_default : goal.returns-in_default
 returns-in_default g c =

@@ -3,12 +3,7 @@ use Rattle.bay.specs.Plain.{ends}
 use Rattle.bay.proofs.Granted.{after_granted, ends_opened}
 use Rattle.bay.proofs.bays.Bay.withdraw.Goals as goal
 
-pub returns : goal.returns
-returns g c =
+pub returns-clause-after : goal.returns-clause-after
+returns-clause-after g c =
     let told = c.in_ok-withdraw.ensures in
-    let legs = c.open_all.ensures in
-    record {
-      answer = told.answer;
-      after = after_granted _ _ _ _ told.answer (λ i. record { register = told.after i; legs = (ap (map ends) legs ∙ ends_opened _) i });
-      notes = legs;
-    }
+    after_granted _ _ _ _ told.answer (λ i. record { register = told.after i; legs = (ap (map ends) c.open_all.ensures ∙ ends_opened _) i })
