@@ -323,6 +323,7 @@ pub fn read_line(text: &[u8], from: usize, stage: Stage) -> Result<Read, Unfit>
     ensures alone { Alone stage text.now from result }
 {
     let mut reader = Reader::new(stage);
+    // By index: reading takes a quarter longer over `text.iter().enumerate().skip(from)`.
     for place in from..text.len() {
         if !reader.take(text[place]) {
             return Err(Unfit { byte: place });
