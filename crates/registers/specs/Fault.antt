@@ -21,7 +21,8 @@ register_code Sealed = code Register 21 0
 register_code NoCard = code Register 22 0
 register_code NoPlace = code Register 23 0
 
--- The causes of a call in their order, each with whether it holds and what is told of it. The call is refused for the first that does.
+-- The causes of a call in their order, each with whether it holds and with what is told of it. The call is refused for the
+-- first that holds.
 abbrev pub first_cause : {X : Type 0} → List (Bool × X) → Option X
 first_cause [] = None
 first_cause (cause ∷ causes) = cond cause.0 (Some cause.1) (first_cause causes)

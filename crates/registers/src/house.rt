@@ -10,7 +10,7 @@ use costs::Delay;
 
 const HOUSE_SIZE: usize = 8;
 
-// No card. The table is one flat constant array of plain numbers, as the project wants it, so a number stands for none.
+// No card. A rule of the project keeps the table one flat constant array of plain numbers, so a number stands for none.
 const NO: i32 = i32::MIN;
 
 // Lines of delay, row by row: a row for each format as `from`, a column for each as `to`.
