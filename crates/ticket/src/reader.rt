@@ -297,8 +297,10 @@ impl Reader {
 
 // The line that was read, with its places.
 fn placed(line: Line, from: usize, end: usize) -> Read
-    requires { (Coded line) × (end ≡ from + length (line_text line)) }
-    ensures value { (result.line ≡ line) × (result.end ≡ end) }
+    requires coded { Coded line }
+    requires whole { end ≡ from + length (line_text line) }
+    ensures line { result.line ≡ line }
+    ensures end { result.end ≡ end }
     ensures number { result.number_place ≡ number_begins from line }
     ensures code { result.code_place ≡ code_begins from line }
 {

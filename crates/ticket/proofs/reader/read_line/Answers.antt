@@ -31,13 +31,14 @@ returns-then-not-take c = record {
 pub placed-requires : goal.placed-requires
 placed-requires c =
     let now = run_more c.args.stage c.args.text.now c.args.from c.loop-place.place c.loop-place.auto.place c.loop-place-test.true c.loop-place.invariant.0 c.if-not-take.ensures in
-    line_ends c.args.stage c.args.text.now c.args.from (c.loop-place.place + 1) c.take.new.self (omega (arith, c.loop-place.auto.place)) (omega (arith, c.loop-place-test.true)) now c.in-Over.is
+    let ends = line_ends c.args.stage c.args.text.now c.args.from (c.loop-place.place + 1) c.take.new.self (omega (arith, c.loop-place.auto.place)) (omega (arith, c.loop-place-test.true)) now c.in-Over.is in
+    record { coded = ends.0; whole = ends.1 }
 
 read_here : (c : goal.After-placed) → IsRead c.args.stage c.args.text.now c.args.from c.placed.result
 read_here c =
     let now = run_more c.args.stage c.args.text.now c.args.from c.loop-place.place c.loop-place.auto.place c.loop-place-test.true c.loop-place.invariant.0 c.if-not-take.ensures in
     is_read c.args.stage c.args.text.now c.args.from (c.loop-place.place + 1) c.take.new.self c.placed.result (omega (arith, c.loop-place.auto.place)) (omega (arith, c.loop-place-test.true)) now
-    c.in-Over.is c.placed.ensures.value c.placed.ensures.number c.placed.ensures.code
+    c.in-Over.is (c.placed.ensures.line, c.placed.ensures.end) c.placed.ensures.number c.placed.ensures.code
 
 pub returns-in-Over : goal.returns-in-Over
 returns-in-Over c = record {
