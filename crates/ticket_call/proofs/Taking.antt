@@ -6,13 +6,13 @@ use Rattle.std.proofs.lemmas.Bool.{cond-false, le-ltb, leb-false}
 use Rattle.std.specs.Option.{option_map}
 use Rattle.costs.specs.Algebra.{Algebra}
 use Rattle.registers.specs.Fault.{code, first_cause, after}
-use Rattle.registers.specs.Meaning.{enter_causes, entered}
+use Rattle.registers.specs.Meaning.{enter_causes}
 use Rattle.registers.specs.declared.fault.Code.{Code}
 use Rattle.registers.specs.declared.fault.Layer.TheVariants.{Ticket}
 use Rattle.bay.specs.Faults.{refused}
-use Rattle.bay.specs.Plain.{Plain, book_causes, step, with_register, with_legs}
+use Rattle.bay.specs.Plain.{Plain, book_causes, step, with_legs}
 use Rattle.bay.specs.declared.legs.Ends.{Ends}
-use Rattle.bay.specs.declared.calls.Call.TheVariants.{Enter, Book}
+use Rattle.bay.specs.declared.calls.Call.TheVariants.{Book}
 use Rattle.bay.specs.declared.fault.BayFault.{BayFault}
 use Rattle.ticket.proofs.Places.{read_advances, read_within}
 use Rattle.ticket.specs.Grammar.{IsRead, IsRefused}
@@ -22,8 +22,8 @@ use Rattle.ticket.specs.declared.line.Read.{Read}
 use Rattle.ticket.specs.declared.line.Stage.{Stage}
 use Rattle.ticket.specs.declared.line.Stage.TheVariants.{Formats, Cards, Legs}
 use Rattle.ticket_call.specs.Faults.{Told, at_byte, told, told_by}
-use Rattle.ticket_call.specs.Said.{Said, said, due, adds, each_at, in_front, line_causes, Passes, More, Through, LineRefused, Stops, Completes}
-use Rattle.ticket_call.specs.Steps.{Coded, OrderTaken, OrdersEnd, OrdersTaken, OrdersRead}
+use Rattle.ticket_call.specs.Said.{Said, said, due, adds, each_at, in_front, line_causes, Passes, More, Through, LineRefused, Stops}
+use Rattle.ticket_call.specs.Steps.{Coded, OrderTaken, OrdersTaken}
 use Rattle.ticket_call.proofs.Passing.{through_more}
 use Rattle.ticket_call.specs.declared.fault.Refusal.{Refusal}
 use Rattle.ticket_call.specs.declared.fault.TicketFault.TheVariants.{Bay}
@@ -103,23 +103,6 @@ module _ (A : Algebra) {C : Type 0} (value : C → A.Value) (cost_of : ℤ → C
     is_due : (codes : List (List ℕ)) → p.register.size ≤ length codes → due (said codes p) ≡ stage
     is_due codes h = orders_due codes p legs stage h legs_are stage_is
 
-    -- a card is entered
-    pub card_taken : (a b : ℕ) (z : ℤ) (cost : C) → read.line ≡ Card a b z → cost ≡ cost_of z → first_cause (enter_causes p.register a b (A.admits (value cost))) ≡ None →
-        first_cause (each_at place (enter_causes p.register a b (A.admits (value cost)))) ≡ None → p' ≡ step A value p (Enter a b cost) → ends' ≡ ends →
-        OrderTaken A value cost_of text place p p' ends ends' (record { place = read.end; legs = legs })
-    card_taken a b z cost line_is cost_is none none_at after_is same =
-        let now_is : p' ≡ with_register p (entered p.register a b (value cost)) = after_is ∙ after_none _ p _ none in
-        record {
-          read = read;
-          passes = λ codes h. passes_line (said codes p) place stage (is_due codes h) read (Card a b z) is_read line_is (ap (λ x. first_cause (each_at place (enter_causes p.register a b (A.admits (value x))))) (sym cost_is) ∙ none_at);
-          more = subst More (sym line_is) tt;
-          adds_it = λ codes. ap (adds A value cost_of (said codes p)) line_is ∙ ap (λ x. said codes (step A value p (Enter a b x))) (sym cost_is) ∙ ap (said codes) (sym after_is);
-          size = ap (λ x. x.register.size) now_is;
-          written = λ base long e. same ∙ e ∙ ap (λ x. in_front x.legs base) (sym now_is);
-          place_is = refl;
-          legs_are = legs_are ∙ ap (λ x. length x.legs) (sym now_is);
-        }
-
     -- a leg is booked
     pub leg_taken : (a b : ℕ) (n : ℕ) → read.line ≡ Leg a b → first_cause (book_causes p a b) ≡ None → first_cause (each_at place (book_causes p a b)) ≡ None →
         p' ≡ step A value p (Book a b) → n ≡ length p.legs → ends' ≡ set ends n (record { from = a; to = b }) →
@@ -149,16 +132,6 @@ module _ (A : Algebra) {C : Type 0} (value : C → A.Value) (cost_of : ℤ → C
         (codes : List (List ℕ)) → p.register.size ≤ length codes → LineRefused A value cost_of text (said codes p) place (told_by refusal)
     leg_refused a b refusal line_is told_is codes h = refuses_line (said codes p) place stage (is_due codes h) read (Leg a b) is_read line_is (told_by refusal) told_is
 
-  -- no card and no leg yet
-  pub orders_none : (from : ℕ) (p : Plain A.Value) (ends : List Ends) → p.legs ≡ [] → OrdersTaken A value cost_of text from p p ends ends (record { place = from; legs = 0 })
-  orders_none from p ends e = record {
-    lines = [];
-    through = λ codes h. (refl, refl);
-    size = refl;
-    written = ap (λ l. in_front l ends) (sym e);
-    legs_are = ap length (sym e);
-  }
-
   module _ (from : ℕ) (p p' : Plain A.Value) (ends ends' : List Ends) (at : Progress) (taken : OrdersTaken A value cost_of text from p p' ends ends' at) where
     as_many : (codes : List (List ℕ)) → p.register.size ≤ length codes → p'.register.size ≤ length codes
     as_many codes h = subst (λ n. n ≤ length codes) (sym taken.size) h
@@ -179,13 +152,6 @@ module _ (A : Algebra) {C : Type 0} (value : C → A.Value) (cost_of : ℤ → C
 
     pub orders_stop : (t : Told) → Coded A value cost_of text p' (λ codes. LineRefused A value cost_of text (said codes p') at.place t) → Coded A value cost_of text p (λ codes. Stops A value cost_of text (said codes p) from t)
     orders_stop t r codes h = record { lines = taken.lines; place = at.place; then = said codes p'; through = taken.through codes h; refused = r codes (as_many codes h) }
-
-    pub orders_complete : (p'' : Plain A.Value) (ends'' : List Ends) → OrdersEnd A value cost_of text at.place p' p'' ends' ends'' → OrdersRead A value cost_of text from p p'' ends ends'' at.place
-    orders_complete p'' ends'' r = record {
-      completes = λ codes h. subst (λ x. Completes A value cost_of text (said codes p) from at.place (said codes x)) (sym r.same)
-          (record { lines = taken.lines; through = taken.through codes h; last = r.read; passes = r.passes codes (as_many codes h); is_end = r.is_end });
-      written = r.kept ∙ taken.written ∙ ap (λ x. in_front x.legs ends) (sym r.same);
-    }
 
   -- each line takes the text further
   pub order_advances : (place : ℕ) (p p' : Plain A.Value) (ends ends' : List Ends) (next : Progress) → OrderTaken A value cost_of text place p p' ends ends' next → (place < next.place) × (next.place ≤ length text)

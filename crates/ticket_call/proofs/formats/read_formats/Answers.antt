@@ -1,11 +1,7 @@
-use Rattle.std.proofs.Common.{◌≡◌, [], refl, subst, arith}
+use Rattle.std.proofs.Common.{arith}
 use Rattle.std.proofs.lemmas.Result.{err_from_is_err_and}
-use Rattle.ticket_call.specs.Steps.{FormatsRead}
 use Rattle.ticket_call.proofs.Passing.{formats_more, formats_stop}
 use Rattle.ticket_call.proofs.formats.read_formats.Goals as goal
-
-pub loop-k-init : goal.loop-k-init
-loop-k-init g c = (c.told-codes, record { lines = []; through = λ p size. (refl, refl); beyond = refl })
 
 pub loop-k-preserved : goal.loop-k-preserved
 loop-k-preserved g c = (
@@ -20,8 +16,3 @@ returns-in_err-place-clause-answer g c =
     rw (p.1, p.2)
     (formats_stop g.C.Cost.algebra g.C.Cost.value g.C.TicketCost.reads c.args.text.now c.args.from c.args.n c.loop-k.k c.args.codes.now c.loop-k.codes c.loop-k.place
     c.loop-k.invariant.1 (omega (arith, c.loop-k.invariant.0)) c.loop-k-test.true c.read_format.new.codes _ c.in_err-place.ensures)
-
-pub returns-clause-answer : goal.returns-clause-answer
-returns-clause-answer g c =
-    let e : c.loop-k.k ≡ c.args.n = omega (arith, c.loop-k.auto.k-end, c.loop-k-test.false) in
-    subst (λ k. FormatsRead g.C.Cost.algebra g.C.Cost.value g.C.TicketCost.reads c.args.text.now c.args.from c.args.n k c.args.codes.now c.loop-k.codes c.loop-k.place) e c.loop-k.invariant.1

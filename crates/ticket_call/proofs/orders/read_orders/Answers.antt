@@ -1,21 +1,11 @@
-use Rattle.std.proofs.Common.{map, Ok, ap, ◌∙◌, subst, arith}
-use lib.ListN.{length-map}
+use Rattle.std.proofs.Common.{Ok, subst, arith}
 use Rattle.std.proofs.lemmas.Result.{err_from_is_err_and}
 use Rattle.bay.specs.Bays.{plain}
-use Rattle.bay.specs.Legs.{booked}
-use Rattle.bay.specs.Plain.{ends}
 use Rattle.ticket_call.specs.Faults.{told_by}
 use Rattle.ticket_call.specs.Steps.{OrderAnswer, OrderTaken}
-use Rattle.ticket_call.proofs.Taking.{orders_none, orders_more, orders_stop, orders_complete, order_advances}
+use Rattle.ticket_call.proofs.Taking.{orders_more, orders_stop, order_advances}
 use Rattle.ticket_call.proofs.orders.read_orders.Given.{Over}
 use Rattle.ticket_call.proofs.orders.read_orders.Goals as goal
-
-pub loop-next-init : goal.loop-next-init
-loop-next-init g c =
-    orders_none g.C.Cost.algebra g.C.Cost.value g.C.TicketCost.reads c.args.text.now c.args.from (plain g.C.Cost.algebra g.C.Cost.value g.R.Register.holds c.args.bay.now) c.args.ends.now (ap (map ends) c.requires)
-
-pub read_order-requires : goal.read_order-requires
-read_order-requires g c = c.loop-next.invariant.legs_are ∙ length-map (booked c.loop-next.bay.legs) ends
 
 pub returns-in_err-next : goal.returns-in_err-next
 returns-in_err-next g c =
@@ -43,11 +33,3 @@ loop-next-preserved g c =
     orders_more g.C.Cost.algebra g.C.Cost.value g.C.TicketCost.reads c.args.text.now c.args.from
     (plain g.C.Cost.algebra g.C.Cost.value g.R.Register.holds c.args.bay.now) (plain g.C.Cost.algebra g.C.Cost.value g.R.Register.holds c.loop-next.bay) c.args.ends.now c.loop-next.ends c.loop-next.at c.loop-next.invariant
     (plain g.C.Cost.algebra g.C.Cost.value g.R.Register.holds c.read_order.new.bay) c.read_order.new.ends c.in-Some.next c.told-ends (taken_here g c)
-
-pub returns : goal.returns
-returns g c =
-    orders_complete g.C.Cost.algebra g.C.Cost.value g.C.TicketCost.reads c.args.text.now c.args.from
-    (plain g.C.Cost.algebra g.C.Cost.value g.R.Register.holds c.args.bay.now) (plain g.C.Cost.algebra g.C.Cost.value g.R.Register.holds c.loop-next.bay) c.args.ends.now c.loop-next.ends c.loop-next.at c.loop-next.invariant
-    (plain g.C.Cost.algebra g.C.Cost.value g.R.Register.holds c.read_order.new.bay) c.read_order.new.ends
-    (subst (λ o. OrderAnswer g.C.Cost.algebra g.C.Cost.value g.C.TicketCost.reads c.args.text.now c.loop-next.at.place (plain g.C.Cost.algebra g.C.Cost.value g.R.Register.holds c.loop-next.bay)
-    (plain g.C.Cost.algebra g.C.Cost.value g.R.Register.holds c.read_order.new.bay) c.loop-next.ends c.read_order.new.ends (Ok o)) c.in_default.is c.in_ok-next.ensures)

@@ -8,16 +8,6 @@ use Rattle.ticket_call.specs.Said.{said}
 use Rattle.ticket_call.proofs.Serving.{front_is, stops_after, completes_after}
 use Rattle.ticket_call.proofs.serve.route_lines.Goals as goal
 
-pub returns-in_err-orders-clause-answer : goal.returns-in_err-orders-clause-answer
-returns-in_err-orders-clause-answer g c =
-    let q = err_from_is_err_and c.from_residual.result c.from_residual.ensures.1 in
-    rw (q.1, q.2) (inl (record {
-      refusal = c.in_err-orders.field-0.0;
-      stops = c.in_err-orders.ensures.answer (plain g.C.Cost.algebra g.C.Cost.value g.R.Register.holds c.args.bay.now) c.requires.size;
-      answers = refl;
-      untouched = record { table = refl; costs = refl; chains = refl };
-    }))
-
 pub returns-in_err-end-clause-answer : goal.returns-in_err-end-clause-answer
 returns-in_err-end-clause-answer g c =
     let q = err_from_is_err_and c.from_residual-in_err-end.result c.from_residual-in_err-end.ensures.1 in

@@ -1,21 +1,12 @@
 use Rattle.std.proofs.Common.{[], map, length, take, sym, ap, ◌∙◌, inr, arith}
 use Rattle.std.proofs.lemmas.List.{length-take-le}
 use Rattle.registers.specs.Meaning.{meant}
-use Rattle.lent.specs.Lent.{admitted_by, nearest_size}
+use Rattle.lent.specs.Lent.{admitted_by}
 use Rattle.lent.specs.List.{listed}
 use Rattle.bay.specs.Plain.{ends}
 use Rattle.ticket_call.specs.Said.{begins}
-use Rattle.ticket_call.proofs.Serving.{bay_fits, size_few, nearest_is, list_begins, lines_with_entries, entries_beyond}
+use Rattle.ticket_call.proofs.Serving.{bay_fits, list_begins, lines_with_entries, entries_beyond}
 use Rattle.ticket_call.proofs.serve.serve.Goals as goal
-
-pub route_lines-requires : goal.route_lines-requires
-route_lines-requires g c =
-    let fits = bay_fits c.args.n (length c.args.sheets.now.entries.now) (sym c.in_ok-judge_bay.ensures) in
-    record {
-      size = ap (λ r. nearest_size r.n) c.new-bay.ensures.register ∙ ap nearest_size c.new.ensures.size ∙ nearest_is c.args.n fits.0;
-      few = (size_few c.args.n fits.0).1;
-      legs = c.new-bay.ensures.legs;
-    }
 
 pub returns-clause-answer : goal.returns-clause-answer
 returns-clause-answer g c =
