@@ -4,15 +4,12 @@ use Rattle.std.proofs.lemmas.List.{get_or-take}
 use Rattle.bay.specs.Routes.{no_ends}
 use Rattle.bay.specs.declared.legs.Ends.{Ends}
 use Rattle.listing.specs.Text.{legs_text, leg_text, formats_of}
-use Rattle.listing.proofs.Writing.{writes_both, writes_is, writes_none}
+use Rattle.listing.proofs.Writing.{writes_both, writes_is}
 use Rattle.listing.proofs.answer.put_listing.Goals as goal
 
 legs_more : (fourccs : List (List ℕ)) (ends : List Ends) (numbers : List ℤ) (chains : List ℕ) (k : ℕ) →
     legs_text fourccs ends numbers chains k ++ leg_text fourccs k (get_or ends k no_ends) (get_or numbers k (pos 0)) (formats_of chains k) ≡ legs_text fourccs ends numbers chains (k + 1)
 legs_more fourccs ends numbers chains k = sym (ap (legs_text fourccs ends numbers chains) (add-one k))
-
-pub loop-k-init : goal.loop-k-init
-loop-k-init g c = writes_none c.args.out.now
 
 pub loop-k-preserved : goal.loop-k-preserved
 loop-k-preserved g c =

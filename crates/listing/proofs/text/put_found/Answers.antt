@@ -1,22 +1,14 @@
-use Rattle.std.proofs.Common.{◌≡◌, ℕ, List, [], ◌∷◌, length, ℤ, codes, sym, refl, ap, ◌∙◌, arith, w32}
+use Rattle.std.proofs.Common.{◌≡◌, ℕ, List, [], ◌∷◌, length, ℤ, codes, sym, refl, ap, ◌∙◌, w32}
 use Rattle.std.proofs.lemmas.Int.{to_z-of_z}
-use Rattle.std.proofs.lemmas.Bool.{eqb-true, eqb-false}
+use Rattle.std.proofs.lemmas.Bool.{eqb-false}
 use Rattle.std.specs.Fmt.{signed_decimal}
 use Rattle.listing.specs.Text.{found_text, codes_text, pieces}
 use Rattle.listing.proofs.Writing.{writes_both, writes_is}
 use Rattle.listing.proofs.text.put_found.Goals as goal
 
-none_found : (fourccs : List (List ℕ)) (cost : ℤ) (formats : List ℕ) → length formats ≡ 0 → codes "none" ≡ found_text fourccs cost formats
-none_found fourccs cost [] e = refl
-none_found fourccs cost (f ∷ fs) e = absurd (omega arith)
-
 some_found : (fourccs : List (List ℕ)) (cost : ℤ) (formats : List ℕ) → (length formats ≡ 0 → ⊥) → pieces (signed_decimal cost ∷ codes " (" ∷ codes_text fourccs formats ∷ codes ")" ∷ []) ≡ found_text fourccs cost formats
 some_found fourccs cost [] n = absurd (n refl)
 some_found fourccs cost (f ∷ fs) n = refl
-
-pub returns-then-is_empty : goal.returns-then-is_empty
-returns-then-is_empty c =
-    writes_is (none_found c.args.codes.now c.args.cost c.args.formats.now (eqb-true (length c.args.formats.now) 0 (sym c.is_empty.ensures ∙ c.if-is_empty.true))) c.put.ensures
 
 pub returns : goal.returns
 returns c =
