@@ -107,7 +107,7 @@ impl<R: Register> Bay<R> {
         }
     }
 
-    // Any one call. Want of memory for what a route would write is found before it begins, and then nothing is done.
+    // Any one call, with the slices that are lent for a route, one by one as there. Want of memory for what a route would write is found before it begins, and then nothing is done.
     pub fn call(
         &mut self,
         heap: Global,

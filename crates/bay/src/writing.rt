@@ -34,6 +34,7 @@ impl<C: Cost> Page<'_, C> {
         ensures written { Written (page_of self.old) (page_of self.new) }
         ensures blank { (k : ℕ) → k < length (booked self.new.legs.now) → Blank C.Cost.algebra C.Cost.value (place (page_of self.new) k) }
     {
+        // A number k, as it names a leg, an entry and a row, and all three are written.
         for k in 0..self.legs.len() {
             self.costs[k] = C::unit();
             write_no_chain(self.chains, k);
@@ -92,6 +93,7 @@ impl<C: Cost> Page<'_, C> {
         ensures spares { Spares goal (page_of self.old) (page_of self.new) }
         ensures served { Served C.Cost.algebra C.Cost.value (cards_in C.Cost.algebra C.Cost.value n table.now) next.now goal (page_of self.new) }
     {
+        // By number, since the legs are written while they are gone through.
         for k in 0..self.legs.len() {
             let leg = self.legs.as_slice()[k];
             if leg.to == goal {

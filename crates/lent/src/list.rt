@@ -23,8 +23,8 @@ pub struct Entry<C> {
     pub cost: C,
 }
 
-// A register of `n` formats that takes one of `entries` for each card. Where `n` or the memory will not do, it has no
-// card and no free place, and every pair is sealed.
+// A register of `n` formats that takes one of `entries` for each card, in any order and searched from the front: a map would ask
+// for memory of its own. Where `n` or the memory will not do, it has no card and no free place, and every pair is sealed.
 #[derive(Drop)]
 pub struct List<'a, C> {
     n: usize,

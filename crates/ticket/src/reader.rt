@@ -101,6 +101,7 @@ impl Reader {
         if self.at < self.word.letters().len() {
             return false;
         }
+        // Each kind has its arm: one for both would need a second match, on the kind.
         match self.word {
             Word::Bay => {
                 self.at = 0;
@@ -319,7 +320,7 @@ fn placed(line: Line, from: usize, end: usize) -> Read
     }
 }
 
-// Reads one line of the text, from a place on.
+// Reads one line of the text, from a place on. The text comes whole with the place beside it, since a refusal tells a place of it.
 pub fn read_line(text: &[u8], from: usize, stage: Stage) -> Result<Read, Unfit>
     ensures line { ReadLine stage text.now from result }
     ensures alone { Alone stage text.now from result }

@@ -124,6 +124,7 @@ pub fn route_ticket(
     let Line::Bay { kind, size } = read.line else {
         return Err(TicketFault::Unfit.at(0));
     };
+    // The memory of each kind has a type of its own, so the kind is matched where it is known.
     let legs = match kind {
         Kind::Delay => serve(text, read.end, size, delay, shared)?,
         Kind::Depth => serve(text, read.end, size, depth, shared)?,

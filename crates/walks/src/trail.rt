@@ -132,7 +132,8 @@ fn tight<C: Cost>(cells: &[Cell<C>], n: usize, goal: usize, from: usize, to: usi
 }
 
 // Each format with a tight card to `to`, which is in the tree, joins the tree and the queue. A format is its number, so the loop
-// goes over the numbers.
+// goes over the numbers. Ticks, next formats and queue are three arguments: a struct of them would hold two lent arrays, and each
+// function would have to say of both that they stay the same ones.
 fn scan<C: Cost>(
     cells: &[Cell<C>],
     n: usize,
