@@ -53,16 +53,22 @@ of_sheets s = of_lists s.entries.now s.table.now s.costs.now
 abbrev pub of_shared : Shared → Common
 of_shared s = record { chains = s.chains.now; codes = s.codes.now; ends = s.ends.now }
 
--- the places lent are the same ones after a call
+-- the places lent are the same ones after a call, and as long as they were
 pub record SameSheets {C : Type 0} (s s' : Sheets C) : Type 0 where
   pub entries : s'.entries.ghost_name ≡ s.entries.ghost_name
   pub table : s'.table.ghost_name ≡ s.table.ghost_name
   pub costs : s'.costs.ghost_name ≡ s.costs.ghost_name
+  pub entries_long : length s'.entries.now ≡ length s.entries.now
+  pub table_long : length s'.table.now ≡ length s.table.now
+  pub costs_long : length s'.costs.now ≡ length s.costs.now
 
 pub record SameShared (s s' : Shared) : Type 0 where
   pub chains : s'.chains.ghost_name ≡ s.chains.ghost_name
   pub codes : s'.codes.ghost_name ≡ s.codes.ghost_name
   pub ends : s'.ends.ghost_name ≡ s.ends.ghost_name
+  pub chains_long : length s'.chains.now ≡ length s.chains.now
+  pub codes_long : length s'.codes.now ≡ length s.codes.now
+  pub ends_long : length s'.ends.now ≡ length s.ends.now
 
 -- what route works on
 abbrev pub desk : {C : Type 0} → List Leg → OfKind C → Common → Desk C

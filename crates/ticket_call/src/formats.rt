@@ -54,6 +54,7 @@ pub(crate) fn read_formats<C: TicketCost>(
 ) -> Result<usize, Refusal>
     requires { n ≤ 64 }
     ensures long { length codes.new ≡ 64 }
+    ensures as_long { length codes.new ≡ length codes.old }
     ensures answer { FormatsAnswer C.Cost.algebra C.Cost.value C.TicketCost.reads text.now from n codes.old codes.new result }
 {
     let mut place = from;

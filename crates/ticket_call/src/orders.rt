@@ -71,7 +71,8 @@ pub(crate) fn read_orders<C: TicketCost, R: Register<Cost = C>>(
     ends: &mut [Ends; MOST_LEGS],
 ) -> Result<usize, Refusal>
     requires { booked bay.old.legs ≡ [] }
-    ensures { OrdersAnswer C.Cost.algebra C.Cost.value C.TicketCost.reads text.now from (plain C.Cost.algebra C.Cost.value R.Register.holds bay.old) (plain C.Cost.algebra C.Cost.value R.Register.holds bay.new) ends.old ends.new result }
+    ensures as_long { length ends.new ≡ length ends.old }
+    ensures answer { OrdersAnswer C.Cost.algebra C.Cost.value C.TicketCost.reads text.now from (plain C.Cost.algebra C.Cost.value R.Register.holds bay.old) (plain C.Cost.algebra C.Cost.value R.Register.holds bay.new) ends.old ends.new result }
 {
     let mut at = Progress {
         place: from,

@@ -7,8 +7,8 @@ use Rattle.ticket_call.proofs.Taking.{orders_more, orders_stop, order_advances}
 use Rattle.ticket_call.proofs.orders.read_orders.Given.{Over}
 use Rattle.ticket_call.proofs.orders.read_orders.Goals as goal
 
-pub returns-in_err-next : goal.returns-in_err-next
-returns-in_err-next g c =
+pub returns-in_err-next-clause-answer : goal.returns-in_err-next-clause-answer
+returns-in_err-next-clause-answer g c =
     let q = err_from_is_err_and c.from_residual.result c.from_residual.ensures.1 in
     rw (q.1, q.2)
     (orders_stop g.C.Cost.algebra g.C.Cost.value g.C.TicketCost.reads c.args.text.now c.args.from

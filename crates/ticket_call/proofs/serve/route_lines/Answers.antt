@@ -17,7 +17,7 @@ returns-in_err-end-clause-answer g c =
     rw (q.1, q.2) (inl (record {
       refusal = c.in_err-end.field-0.0;
       stops = stops_after g.C.Cost.algebra g.C.Cost.value g.C.TicketCost.reads c.args.text.now (said [] p) c.args.from formats.lines c.in_ok-orders.orders (said (take c.args.n c.read_formats.new.codes) p)
-          (formats.through p c.requires.size) (told_by c.in_err-end.field-0.0) (c.in_err-end.ensures (take c.args.n c.read_formats.new.codes) (omega (arith, long, c.requires.size)));
+          (formats.through p c.requires.size) (told_by c.in_err-end.field-0.0) (c.in_err-end.ensures.answer (take c.args.n c.read_formats.new.codes) (omega (arith, long, c.requires.size)));
       answers = refl;
       untouched = record { table = refl; costs = refl; chains = refl };
     }))
@@ -27,7 +27,7 @@ returns-clause-answer g c =
     let p = plain g.C.Cost.algebra g.C.Cost.value g.R.Register.holds c.args.bay.now in
     let p' = plain g.C.Cost.algebra g.C.Cost.value g.R.Register.holds c.read_orders.new.bay in
     let formats = c.in_ok-orders.ensures.answer in
-    let orders = c.in_ok-end.ensures in
+    let orders = c.in_ok-end.ensures.answer in
     let codes = take c.args.n c.read_formats.new.codes in
     let long = length-take-le c.args.n c.read_formats.new.codes (omega (arith, c.read_formats.ensures.long, c.requires.few)) in
     inr (record {
