@@ -4,7 +4,7 @@ ghost use Rattle.ticket_call.specs.Answers.{of_memory, SameSheets, SameShared};
 ghost use Rattle.ticket_call.specs.Faults.{ticket_code};
 ghost use Rattle.listing.specs.Answered.{Answered};
 ghost use Rattle.listing.specs.Output.{Writes, Printed};
-ghost use Rattle.listing.specs.Text.{listing_text, loop_text, loop_number, refusal_text, text_from};
+ghost use Rattle.listing.specs.Text.{listing_text, loop_text, loop_number, refusal_text, answer_text, text_from};
 
 use crate::output::Output;
 use crate::text::{put_code_line, put_codes, put_leg, row_formats};
@@ -12,9 +12,17 @@ use bay::BayFault;
 use costs::{Cost, Delay, Depth};
 use ticket::Kind;
 use ticket_call::{
-    FourCc, Granted, MOST_CODES, MOST_LEGS, Refusal, Shared, Sheets, TicketCost, TicketFault,
+    Ends, FourCc, Granted, MOST_CODES, MOST_LEGS, Refusal, Shared, Sheets, TicketCost, TicketFault,
     route_ticket,
 };
+
+// The memory for tickets of every kind, as it is read to write an answer.
+#[derive(Clone, Copy)]
+pub struct View<'a> {
+    pub chains: &'a [u8],
+    pub codes: &'a [FourCc; MOST_CODES],
+    pub ends: &'a [Ends; MOST_LEGS],
+}
 
 // The number that stands for cost `k` of the sheet.
 fn number_at<C: TicketCost>(costs: &[C], k: usize) -> i32
@@ -24,19 +32,12 @@ fn number_at<C: TicketCost>(costs: &[C], k: usize) -> i32
 }
 
 // A line for each leg, and the end line.
-fn put_listing<C: TicketCost>(out: &mut Output, costs: &[C], shared: &Shared<'_>, legs: usize)
-    ensures { Writes out.old out.new (listing_text shared.now.codes.now shared.now.ends.now (map C.TicketCost.writes costs.now) shared.now.chains.now legs) }
+fn put_listing<C: TicketCost>(out: &mut Output, costs: &[C], view: &View<'_>, legs: usize)
+    ensures { Writes out.old out.new (listing_text view.now.codes.now view.now.ends.now (map C.TicketCost.writes costs.now) view.now.chains.now legs) }
 {
-    for (k, leg) in shared.ends[..legs.min(MOST_LEGS)].iter().enumerate() {
+    for (k, leg) in view.ends[..legs.min(MOST_LEGS)].iter().enumerate() {
         let cost = number_at(costs, k);
-        put_leg(
-            out,
-            shared.codes,
-            k,
-            *leg,
-            cost,
-            row_formats(shared.chains, k),
-        );
+        put_leg(out, view.codes, k, *leg, cost, row_formats(view.chains, k));
     }
     out.put(b"(end)");
     out.put(b"\n");
@@ -60,12 +61,12 @@ fn is_loop(fault: TicketFault) -> bool
 }
 
 // The line of a refusal, and that of the loop if there is one.
-fn put_refusal(out: &mut Output, shared: &Shared<'_>, refusal: Refusal)
-    ensures { Writes out.old out.new (refusal_text shared.now.codes.now shared.now.chains.now refusal) }
+fn put_refusal(out: &mut Output, view: &View<'_>, refusal: Refusal)
+    ensures { Writes out.old out.new (refusal_text view.now.codes.now view.now.chains.now refusal) }
 {
     put_code_line(out, refusal.fault.code(), refusal.byte);
     if is_loop(refusal.fault) {
-        put_loop(out, shared.codes, row_formats(shared.chains, 0));
+        put_loop(out, view.codes, row_formats(view.chains, 0));
     }
 }
 
@@ -73,18 +74,18 @@ fn put_refusal(out: &mut Output, shared: &Shared<'_>, refusal: Refusal)
 fn put_answer(
     out: &mut Output,
     answer: &Result<Granted, Refusal>,
-    delay: &Sheets<'_, Delay>,
-    depth: &Sheets<'_, Depth>,
-    shared: &Shared<'_>,
+    delays: &[Delay],
+    depths: &[Depth],
+    view: &View<'_>,
 )
-    ensures { Writes out.old out.new (text_from (of_memory delay.now depth.now shared.now) answer.now) }
+    ensures { Writes out.old out.new (answer_text view.now.codes.now view.now.ends.now delays.now depths.now view.now.chains.now answer.now) }
 {
     match answer {
         Ok(granted) => match granted.kind {
-            Kind::Delay => put_listing(out, delay.costs, shared, granted.legs),
-            Kind::Depth => put_listing(out, depth.costs, shared, granted.legs),
+            Kind::Delay => put_listing(out, delays, view, granted.legs),
+            Kind::Depth => put_listing(out, depths, view, granted.legs),
         },
-        Err(refusal) => put_refusal(out, shared, *refusal),
+        Err(refusal) => put_refusal(out, view, *refusal),
     }
 }
 
@@ -99,22 +100,41 @@ pub struct PlaceShort {
 pub fn write_answer(
     place: &mut [u8],
     answer: &Result<Granted, Refusal>,
+    delays: &[Delay],
+    depths: &[Depth],
+    view: View<'_>,
+) -> Result<usize, PlaceShort>
+    ensures { Printed place.old place.new (answer_text view.entry.codes.now view.entry.ends.now delays.now depths.now view.entry.chains.now answer.now) result }
+{
+    let mut nothing: [u8; 0] = [];
+    let mut count = Output::new(&mut nothing);
+    put_answer(&mut count, answer, delays, depths, &view);
+    let length = count.finish();
+    if length > place.len() {
+        return Err(PlaceShort { needed: length });
+    }
+    let mut out = Output::new(place);
+    put_answer(&mut out, answer, delays, depths, &view);
+    Ok(out.finish())
+}
+
+// Writes the text of an answer from the memory that is lent. It is a function since the borrow checker does not cover a `&mut`
+// that is lent "as `&` through a `&` to what holds the `&mut`, where that `&` was made in the function", as in `answer_ticket`.
+fn write_lent(
+    place: &mut [u8],
+    answer: &Result<Granted, Refusal>,
     delay: &Sheets<'_, Delay>,
     depth: &Sheets<'_, Depth>,
     shared: &Shared<'_>,
 ) -> Result<usize, PlaceShort>
     ensures { Printed place.old place.new (text_from (of_memory delay.now depth.now shared.now) answer.now) result }
 {
-    let mut nothing: [u8; 0] = [];
-    let mut count = Output::new(&mut nothing);
-    put_answer(&mut count, answer, delay, depth, shared);
-    let length = count.finish();
-    if length > place.len() {
-        return Err(PlaceShort { needed: length });
-    }
-    let mut out = Output::new(place);
-    put_answer(&mut out, answer, delay, depth, shared);
-    Ok(out.finish())
+    let view = View {
+        chains: shared.chains,
+        codes: shared.codes,
+        ends: shared.ends,
+    };
+    write_answer(place, answer, delay.costs, depth.costs, view)
 }
 
 // Routes a ticket and writes the text of its answer, in memory that is lent. The answer is that of `route_ticket`, and its
@@ -132,5 +152,5 @@ pub fn answer_ticket(
     ensures shared { SameShared shared.old shared.new }
 {
     let answer = route_ticket(text, delay, depth, shared);
-    write_answer(place, &answer, delay, depth, shared)
+    write_lent(place, &answer, delay, depth, shared)
 }

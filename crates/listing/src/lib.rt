@@ -5,4 +5,4 @@ mod answer;
 mod output;
 mod text;
 
-pub use answer::{PlaceShort, answer_ticket, write_answer};
+pub use answer::{PlaceShort, View, answer_ticket, write_answer};

@@ -15,18 +15,18 @@ pub loop-k-preserved : goal.loop-k-preserved
 loop-k-preserved g c =
     let fits : SFits w32 c.number_at-cost.result = search rules in
     let numbers = map g.C.TicketCost.writes c.args.costs.now in
-    let ends = c.args.shared.now.ends.now in
-    let leg = get_or (take c.min.result c.args.shared.now.ends.now) c.loop-k.k no_ends in
-    writes_is (legs_more c.args.shared.now.codes.now ends numbers c.args.shared.now.chains.now c.loop-k.k)
+    let ends = c.args.view.now.ends.now in
+    let leg = get_or (take c.min.result c.args.view.now.ends.now) c.loop-k.k no_ends in
+    writes_is (legs_more c.args.view.now.codes.now ends numbers c.args.view.now.chains.now c.loop-k.k)
     (writes_both c.loop-k.invariant
     (writes_is
-    (ap (λ z. leg_text c.args.shared.now.codes.now c.loop-k.k leg z c.row_formats.result.now) (to_z-of_z w32 c.number_at-cost.result fits ∙ c.number_at-cost.ensures)
-    ∙ ap (leg_text c.args.shared.now.codes.now c.loop-k.k leg (get_or numbers c.loop-k.k (pos 0))) c.row_formats.ensures
-    ∙ ap (λ e. leg_text c.args.shared.now.codes.now c.loop-k.k e (get_or numbers c.loop-k.k (pos 0)) (formats_of c.args.shared.now.chains.now c.loop-k.k)) (get_or-take c.min.result c.args.shared.now.ends.now c.loop-k.k no_ends (omega (arith, length-take c.min.result c.args.shared.now.ends.now))))
+    (ap (λ z. leg_text c.args.view.now.codes.now c.loop-k.k leg z c.row_formats.result.now) (to_z-of_z w32 c.number_at-cost.result fits ∙ c.number_at-cost.ensures)
+    ∙ ap (leg_text c.args.view.now.codes.now c.loop-k.k leg (get_or numbers c.loop-k.k (pos 0))) c.row_formats.ensures
+    ∙ ap (λ e. leg_text c.args.view.now.codes.now c.loop-k.k e (get_or numbers c.loop-k.k (pos 0)) (formats_of c.args.view.now.chains.now c.loop-k.k)) (get_or-take c.min.result c.args.view.now.ends.now c.loop-k.k no_ends (omega (arith, length-take c.min.result c.args.view.now.ends.now))))
     c.put_leg.ensures))
 
 pub returns : goal.returns
 returns g c =
     let all : c.loop-k.k ≡ min c.args.legs 32 = omega (arith, c.loop-k.auto.k-end, c.loop-k-test.false, c.min.ensures) in
-    writes_both (writes_is (ap (legs_text c.args.shared.now.codes.now c.args.shared.now.ends.now (map g.C.TicketCost.writes c.args.costs.now) c.args.shared.now.chains.now) all) c.loop-k.invariant)
+    writes_both (writes_is (ap (legs_text c.args.view.now.codes.now c.args.view.now.ends.now (map g.C.TicketCost.writes c.args.costs.now) c.args.view.now.chains.now) all) c.loop-k.invariant)
     (writes_both c.put.ensures c.put-2.ensures)

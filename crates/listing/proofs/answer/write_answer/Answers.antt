@@ -1,7 +1,6 @@
 use Rattle.std.proofs.Common.{◌≡◌, ◌<◌, [], ◌++◌, length, drop, refl, ◌∙◌, arith, rules}
-use Rattle.ticket_call.specs.Answers.{of_memory}
 use Rattle.listing.specs.Output.{most_length}
-use Rattle.listing.specs.Text.{text_from}
+use Rattle.listing.specs.Text.{answer_text}
 use Rattle.listing.proofs.Writing.{printed}
 use Rattle.listing.proofs.answer.write_answer.Goals as goal
 
@@ -14,7 +13,7 @@ returns-then-length-place c = (
 
 pub returns : goal.returns
 returns c =
-    let text = text_from (of_memory c.args.delay.now c.args.depth.now c.args.shared.now) c.args.answer.now in
+    let text = answer_text c.args.view.codes.now c.args.view.ends.now c.args.delays.now c.args.depths.now c.args.view.chains.now c.args.answer.now in
     let counted = c.finish-length.ensures.count ∙ (c.put_answer.ensures.adds [] [] c.new-count.ensures.holds).count in
     let short : length c.args.place.now < most_length = omega arith in
     let done = printed c.args.place.now text c.put_answer-2.new.out c.finish-length.result (c.put_answer-2.ensures.adds c.args.place.now [] c.new-out.ensures.holds) counted (omega (arith, c.if-length-place.false)) short in
