@@ -30,13 +30,9 @@ struct Memory<C> {
 
 impl<C: Copy> Memory<C> {
     fn new(heap: Global, cost: C) -> Result<Memory<C>, AllocError> {
-        let nothing = Cell {
-            card: None,
-            least: None,
-        };
         Ok(Memory {
             entries: vec![in heap; None; TICKET_ENTRIES]?,
-            table: vec![in heap; nothing; CELLS]?,
+            table: vec![in heap; Cell::empty(); CELLS]?,
             costs: vec![in heap; cost; MOST_LEGS]?,
         })
     }
