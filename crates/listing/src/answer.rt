@@ -80,6 +80,7 @@ fn put_answer(
 )
     ensures { Writes out.old out.new (answer_text view.now.codes.now view.now.ends.now delays.now depths.now view.now.chains.now answer.now) }
 {
+    // A match on the kind, since the costs of each kind have a type of their own.
     match answer {
         Ok(granted) => match granted.kind {
             Kind::Delay => put_listing(out, delays, view, granted.legs),

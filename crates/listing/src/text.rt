@@ -82,7 +82,7 @@ pub(crate) fn put_leg(
     out.put(b"\n");
 }
 
-// The word for a layer.
+// The word for a layer, as bytes: its `Display` has the same word, but a listing is no `fmt::Write`.
 fn layer_word(layer: Layer) -> &'static [u8]
     ensures { result.now ≡ layer_text layer }
 {

@@ -194,7 +194,8 @@ impl Reader {
         true
     }
 
-    // Takes the next byte. False where no allowed line goes on with it.
+    // Takes the next byte. False where no allowed line goes on with it. One match, since what may come depends on the state and on
+    // the sort of the sign together.
     fn take(&mut self, sign: u8) -> bool
         ensures { left result self.new ≡ after_byte (to_come self.old) sign }
     {
