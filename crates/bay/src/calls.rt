@@ -1,9 +1,14 @@
 // The calls of a bay as values, and their answers.
 use crate::fault::BayFault;
-use crate::legs::Leg;
+use crate::legs::{Leg, MOST_LEGS};
 use registers::Format;
+use walks::ROW;
 
-// A call with its arguments, as data: a host hands in a list of them and may keep it, so it is no closure. `Route` works in the table and the sheets that are handed in with the list of calls.
+// So many bytes have the rows of all the legs that a bay may have.
+pub const CHAIN_BYTES: usize = ROW * MOST_LEGS;
+
+// A call with its arguments, as data: a host hands in a list of them and may keep it, so it is no closure. `Route` works in the
+// table and the sheets that are handed in with the list of calls.
 #[derive(Clone, Copy, Debug, PartialEq, Eq)]
 pub enum Call<C> {
     Enter { from: Format, to: Format, cost: C },
@@ -14,7 +19,7 @@ pub enum Call<C> {
     Route,
 }
 
-// What a granted route wrote: a cost and a row for each leg.
+// What a granted route wrote: a cost and a row for each leg, in two lists as they stand in the sheets.
 #[derive(Drop)]
 pub struct Routes<C> {
     pub costs: Vec<C>,

@@ -57,6 +57,7 @@ impl From<RegisterFault> for BayFault {
     }
 }
 
+// Its own causes, with a layer of their own, as in a register.
 impl From<EndsFault> for BayFault {
     ghost from_gives = { λ f r. bay_code r ≡ ends_code BayLayer f };
 

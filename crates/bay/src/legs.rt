@@ -24,7 +24,7 @@ pub struct Ends {
     pub to: Format,
 }
 
-// A chain is wanted between two formats.
+// A chain is wanted between two formats. They stand in the leg itself, since a host reads `leg.from` of a leg that is shown.
 #[derive(Clone, Copy, Debug, PartialEq, Eq)]
 pub struct Leg {
     pub from: Format,

@@ -11,7 +11,7 @@ const NO_LEG: Leg = Leg {
     note: Note::Open,
 };
 
-// The notes of the first legs become open. A function of its own: the legs can lend their array whole, but no part of it.
+// The notes of the first legs become open. A function of its own: the legs can lend their array whole, but no slice of it.
 fn open_notes(list: &mut [Leg], count: usize)
     requires { count ≤ length list.old }
     ensures { list.new ≡ opened (take count list.old) ++ drop count list.old }
@@ -64,7 +64,7 @@ impl Legs {
         self.count += 1;
     }
 
-    // Sets the note of one leg, which is lent for that alone.
+    // Sets the note of one leg.
     pub(crate) fn set_note(&mut self, number: usize, note: Note)
         requires { number < length (booked self.old) }
         ensures { booked self.new ≡ slice_set (booked self.old) number (noted note (slice_index_or (booked self.old) number no_leg)) }

@@ -15,7 +15,7 @@ mod running;
 mod writing;
 
 pub use bays::Bay;
-pub use calls::{Answer, Call, Routes, Stopped};
+pub use calls::{Answer, CHAIN_BYTES, Call, Routes, Stopped};
 pub use fault::BayFault;
 pub use law::one_by_one;
 pub use legs::{Ends, Leg, MOST_LEGS, Note};

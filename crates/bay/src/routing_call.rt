@@ -24,8 +24,8 @@ impl<R: Register> Bay<R> {
     }
 
     // A chain of least cost for every leg, or a loop that undercuts the unit. Leg k has entry k of the cost sheet and row k of
-    // the chain sheet; it does not matter what the table and the sheets hold. They are three arguments, since a host lends each as
-    // a slice.
+    // the chain sheet; it does not matter what the table and the sheets hold. They are three arguments, by a rule
+    // of the project: a host lends each as a slice of its own.
     pub fn route(
         &mut self,
         table: &mut [Cell<R::Cost>],

@@ -8,16 +8,13 @@ ghost use Rattle.bay.specs.Runs.{CallDone, EditAnswer, Reserved, Right, RunDone,
 ghost use Rattle.bay.specs.declared.calls.Call.TheVariants.{Route};
 
 use crate::bays::Bay;
-use crate::calls::{Answer, Call, Routes, Stopped};
+use crate::calls::{Answer, CHAIN_BYTES, Call, Routes, Stopped};
 use crate::fault::BayFault;
 use crate::legs::MOST_LEGS;
 use costs::Cost;
 use registers::Register;
 use std::alloc::{AllocError, Global};
 use walks::{Cell, ROW};
-
-// So many bytes have the rows of all the legs that a bay may have.
-const CHAIN_BYTES: usize = ROW * MOST_LEGS;
 
 impl<C: Cost> Routes<C> {
     // Room for what a route may write.
@@ -84,7 +81,8 @@ impl<R: Register> Bay<R> {
         }
     }
 
-    // A call on the cards and the legs alone, with its answer, or why it is refused; none where the call is a route.
+    // A call on the cards and the legs alone, with its answer, or why it is refused; none where the call is a route, which alone
+    // works in the table and the sheets.
     fn edit(&mut self, call: Call<R::Cost>) -> Result<Option<Answer<R::Cost>>, BayFault>
         ensures { EditAnswer R.Cost.Cost.algebra R.Cost.Cost.value (plain R.Cost.Cost.algebra R.Cost.Cost.value R.Register.holds self.old) (plain R.Cost.Cost.algebra R.Cost.Cost.value R.Register.holds self.new) (booked self.old.legs) (booked self.new.legs) call result }
     {
@@ -107,7 +105,7 @@ impl<R: Register> Bay<R> {
         }
     }
 
-    // Any one call, with the slices that are lent for a route, one by one as there. Want of memory for what a route would write is found before it begins, and then nothing is done.
+    // Any one call. Table and sheets are three arguments, as in `route`. Want of memory for what a route would write is found before it begins, and then nothing is done.
     pub fn call(
         &mut self,
         heap: Global,
@@ -144,6 +142,7 @@ impl<R: Register> Bay<R> {
                 answers: Vec::new(heap),
             });
         };
+        // A match, as the answers so far go with the error.
         for call in calls {
             match self.call(heap, *call, table, costs, chains) {
                 Ok(answer) => answers.push_reserved(answer),

@@ -45,7 +45,7 @@ fn list_fits(n: usize, entries: usize) -> bool
     size_fits(n) && entries_fit(entries)
 }
 
-// Whether the two are different formats below n. Not by `judge_ends`: every search of the list asks this of each entry, and
+// Whether the two are different formats below n. Not by `judge_entry`: every search of the list asks this of each entry, and
 // the plain test is the faster one.
 fn is_possible(n: usize, from: Format, to: Format) -> bool
     ensures { result ≡ possible n from to }
@@ -168,7 +168,8 @@ impl<'a, C: Cost> Register for List<'a, C> {
     }
 
     fn card(&self, from: Format, to: Format) -> Option<C> {
-        if judge_ends(self.size(), from, to).is_err() || !list_fits(self.n, self.entries.len()) {
+        judge_ends(self.size(), from, to).ok()?;
+        if !list_fits(self.n, self.entries.len()) {
             return None;
         }
         self.first_cost_for(from, to)
@@ -193,7 +194,7 @@ impl<'a, C: Cost> Register for List<'a, C> {
         Ok(())
     }
 
-    // Also what happens to the lent memory: a granted call clears the pair's entries, and nothing else is touched.
+    // Also what happens to the lent memory, in clauses since they are promises to its lender: a granted call clears the pair's entries, and nothing else is touched.
     fn withdraw(&mut self, from: Format, to: Format) -> Result<(), RegisterFault>
         ensures answer { refusal result ≡ first_cause (withdraw_causes (list_means C.Cost.algebra C.Cost.value self.old) from to) }
         ensures after { list_means C.Cost.algebra C.Cost.value self.new ≡ after (refusal result) (list_means C.Cost.algebra C.Cost.value self.old) (withdrawn (list_means C.Cost.algebra C.Cost.value self.old) from to) }
@@ -205,9 +206,7 @@ impl<'a, C: Cost> Register for List<'a, C> {
         if !list_fits(self.n, self.entries.len()) {
             return Err(RegisterFault::Sealed);
         }
-        if self.card(from, to).is_none() {
-            return Err(RegisterFault::NoCard);
-        }
+        self.card(from, to).ok_or(RegisterFault::NoCard)?;
         self.remove(from, to);
         Ok(())
     }

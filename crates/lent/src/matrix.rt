@@ -64,7 +64,8 @@ impl<'a, C: Cost> Register for Matrix<'a, C> {
     }
 
     fn card(&self, from: Format, to: Format) -> Option<C> {
-        if judge_ends(self.size(), from, to).is_err() || !matrix_fits(self.n, self.places.len()) {
+        judge_ends(self.size(), from, to).ok()?;
+        if !matrix_fits(self.n, self.places.len()) {
             return None;
         }
         self.cost_at(from * self.n + to)
@@ -87,7 +88,7 @@ impl<'a, C: Cost> Register for Matrix<'a, C> {
         Ok(())
     }
 
-    // Also what happens to the lent memory: a granted call clears the pair's place, and nothing else is touched.
+    // Also what happens to the lent memory, in clauses since they are promises to its lender: a granted call clears the pair's place, and nothing else is touched.
     fn withdraw(&mut self, from: Format, to: Format) -> Result<(), RegisterFault>
         ensures answer { refusal result ≡ first_cause (withdraw_causes (matrix_means C.Cost.algebra C.Cost.value self.old) from to) }
         ensures after { matrix_means C.Cost.algebra C.Cost.value self.new ≡ after (refusal result) (matrix_means C.Cost.algebra C.Cost.value self.old) (withdrawn (matrix_means C.Cost.algebra C.Cost.value self.old) from to) }
@@ -99,9 +100,7 @@ impl<'a, C: Cost> Register for Matrix<'a, C> {
         if !matrix_fits(self.n, self.places.len()) {
             return Err(RegisterFault::Sealed);
         }
-        if self.card(from, to).is_none() {
-            return Err(RegisterFault::NoCard);
-        }
+        self.card(from, to).ok_or(RegisterFault::NoCard)?;
         let cleared = from * self.n + to;
         self.places[cleared] = None;
         Ok(())

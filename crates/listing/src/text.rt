@@ -22,7 +22,7 @@ pub(crate) fn row_formats(chains: &[u8], k: usize) -> &[u8]
     }
 }
 
-// The code of a format.
+// The code of a format. Output and codes are two arguments: a place of bytes knows no codes, and counting a text writes it too.
 fn put_code(out: &mut Output, codes: &[FourCc; MOST_CODES], format: u8)
     ensures { Writes out.old out.new (code_text codes.now format) }
 {

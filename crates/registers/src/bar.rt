@@ -57,7 +57,8 @@ impl<R: Register> Register for Bar<R> {
     }
 
     fn card(&self, from: Format, to: Format) -> Option<R::Cost> {
-        if judge_ends(self.below.size(), from, to).is_err() || has_barred_end(self.bits, from, to) {
+        judge_ends(self.below.size(), from, to).ok()?;
+        if has_barred_end(self.bits, from, to) {
             return None;
         }
         self.below.card(from, to)

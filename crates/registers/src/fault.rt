@@ -94,6 +94,7 @@ impl RegisterFault {
     }
 }
 
+// The register's causes and the bay's name the ends' faults as their own, as each is told with a layer of its own.
 impl From<EndsFault> for RegisterFault {
     ghost from_gives = { λ f r. register_code r ≡ ends_code Register f };
 

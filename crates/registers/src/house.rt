@@ -62,9 +62,7 @@ impl Register for HouseTable {
     }
 
     fn card(&self, from: Format, to: Format) -> Option<Delay> {
-        if judge_ends(HOUSE_SIZE, from, to).is_err() {
-            return None;
-        }
+        judge_ends(HOUSE_SIZE, from, to).ok()?;
         delay_at(from * HOUSE_SIZE + to)
     }
 

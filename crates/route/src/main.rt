@@ -3,7 +3,7 @@
 #![tactic(auto)]
 
 use anyhow::{Context, anyhow};
-use bay::{Answer, Bay, Call, Routes};
+use bay::{Answer, Bay, CHAIN_BYTES, Call, MOST_LEGS, Routes};
 use costs::Delay;
 use registers::{Bar, Code, HouseTable};
 use walks::{Cell, ROW};
@@ -110,8 +110,8 @@ fn print_answer(rt: &HostRuntime, answer: &Answer<Delay>) -> anyhow::Result<()> 
 fn serve(rt: &HostRuntime, bars: u64, calls: &[Call<Delay>]) -> anyhow::Result<()> {
     let mut bay = Bay::new(Bar::new(HouseTable, bars));
     let mut table = [Cell::empty(); 64];
-    let mut costs = [Delay { lines: 0 }; 32];
-    let mut chains = [255; 2112];
+    let mut costs = [Delay { lines: 0 }; MOST_LEGS];
+    let mut chains = [255; CHAIN_BYTES];
     let answers = bay
         .run(rt.alloc(), calls, &mut table, &mut costs, &mut chains)
         .map_err(|_| anyhow!("there is no memory"))?;

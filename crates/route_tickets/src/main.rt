@@ -8,14 +8,13 @@ use listing::answer_ticket;
 use std::alloc::{AllocError, Global};
 use std::io;
 use std::io::{Read, Write};
-use ticket_call::{Ends, MOST_BYTES, MOST_CODES, MOST_LEGS, Shared, Sheets, TICKET_ENTRIES};
-use walks::{Cell, ROW};
+use ticket_call::{
+    CHAIN_BYTES, Ends, MOST_BYTES, MOST_CODES, MOST_LEGS, Shared, Sheets, TICKET_ENTRIES,
+};
+use walks::Cell;
 
 // As many cells as a register of the most formats wants: each format has a code.
 const CELLS: usize = MOST_CODES * MOST_CODES;
-
-// As many bytes as the rows of the most legs have.
-const CHAIN_BYTES: usize = ROW * MOST_LEGS;
 
 // More bytes than any answer has.
 const ANSWER_BYTES: usize = 65_536;

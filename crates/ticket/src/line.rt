@@ -27,7 +27,8 @@ pub enum Stage {
     Legs,
 }
 
-// A line that was read, with the place after its line end, that of its first number and that of its code.
+// A line that was read, with the place after its line end, that of its first number and that of its code. A place that a line does
+// not have is its end: only the line that has it looks there.
 #[derive(Clone, Copy, Debug)]
 pub struct Read {
     pub line: Line,

@@ -29,6 +29,8 @@ pub enum State {
     Over,
 }
 
+// The reader changes in place, by a rule of the project, so each thing that it may know has a field: what its state does not speak of is
+// of no account. Its methods answer whether the sign fits, and no more: a false answer ends the reading.
 #[derive(Drop)]
 pub struct Reader {
     stage: Stage,
@@ -130,6 +132,7 @@ impl Reader {
         if self.at < self.word.letters().len() {
             return false;
         }
+        // A match: over `self.word != Word::End` the proof did not close.
         match self.word {
             Word::End => {
                 self.finish(Line::End);

@@ -6,10 +6,11 @@ ghost use Rattle.ticket_call.specs.Steps.{FormatAnswer, FormatsAnswer};
 use crate::fault::{Refusal, TicketFault};
 use crate::kinds::TicketCost;
 use costs::Cost;
+use registers::MOST_FORMATS;
 use ticket::{Line, Stage, read_line, same_bytes};
 
 // A ticket has at most so many codes, one for each format.
-pub const MOST_CODES: usize = 64;
+pub const MOST_CODES: usize = MOST_FORMATS;
 
 // The four letters or digits by which a format is known.
 pub type FourCc = [u8; 4];

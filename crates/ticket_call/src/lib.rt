@@ -7,7 +7,7 @@ mod kinds;
 mod orders;
 mod serve;
 
-pub use bay::{Ends, MOST_LEGS};
+pub use bay::{CHAIN_BYTES, Ends, MOST_LEGS};
 pub use fault::{Refusal, TicketFault};
 pub use formats::{FourCc, MOST_CODES};
 pub use kinds::TicketCost;

@@ -69,10 +69,7 @@ fn split_row(row: &[u8]) -> Option<(&[u8], &[u8])> {
 
 // The formats of a row.
 fn formats(row: &[u8]) -> &[u8] {
-    match split_row(row) {
-        Some((formats, _)) => formats,
-        None => &[],
-    }
+    split_row(row).map_or(&[], |(formats, _)| formats)
 }
 
 // Whether all that is behind the formats of a row is 255.
