@@ -1,6 +1,8 @@
 -- The tree of tight cards grows format by format, with a queue of those that joined.
 -- When each of the queue was scanned, the table of next formats leads along chains of least cost.
 use Rattle.std.proofs.Common.{◌≡◌, ℕ, zero, suc, ◌+◌, ◌<◌, ◌≤◌, Bool, true, false, ◌⊎◌, List, [], ◌∷◌, ◌++◌, length, get_or, set, Some, None, sym, refl, ◌∙◌, subst, inl, inr, le_of_suc-le-suc, arith, below_more}
+use Rattle.std.proofs.Math.Logic.{∥∥₁_elim}
+use Rattle.std.specs.Coded.{le_prop}
 use Rattle.std.proofs.Math.Seq.{get_or-append_seam}
 use Rattle.std.proofs.lemmas.List.{get_or-set_same, get_or-set_other, get_or_append_left, length-append, length-set}
 use Rattle.std.proofs.lemmas.Bool.{cases_eq, cases_Bool, both_ways}
@@ -73,15 +75,22 @@ abbrev pub Turn : (A : Algebra) {C : Type 0} (value : C → A.Value) (n : ℕ) (
 Turn A value n cells goal before shorter w k ticked next joined =
     Growing A value n cells goal ticked next joined × Wider before ticked shorter joined × Scanned A value n cells goal ticked w k
 
-module _ {A : Algebra} (L : Lawful A) {C : Type 0} (value : C → A.Value) (n : ℕ) (cells : List (Cell C)) (goal : ℕ) (ready : Ready A value n cells goal) where
+module _ {A : Algebra} (L : Lawful A) {C : Type 0} (value : C → A.Value) (n : ℕ) (cells : List (Cell C)) (goal : ℕ) (ready : ∥ Ready A value n cells goal ∥₁) where
+  -- what an aim is known for, whichever way that was shown
+  few : n ≤ most_formats
+  few = ∥∥₁_elim ready le_prop (λ r. r.few)
+
+  inside : goal < n
+  inside = ∥∥₁_elim ready le_prop (λ r. r.inside)
+
   pub growing_start : (ticked : List Bool) (next : List ℕ) → length ticked ≡ most_formats → length next ≡ most_formats → Clear ticked →
       Growing A value n cells goal (set ticked goal true) next (goal ∷ [])
   growing_start ticked next t x clear =
-      let on : get_or (set ticked goal true) goal false ≡ true = get_or-set_same ticked goal true false (omega (arith, ready.inside, ready.few)) in
+      let on : get_or (set ticked goal true) goal false ≡ true = get_or-set_same ticked goal true false (omega (arith, inside, few)) in
       record {
         grown = grown_start A (cards_in A value n cells) (to_goal A value n cells goal) goal ticked next (to_goal_goal L value n cells goal) clear;
         rooted = on;
-        lined = record { below = (ready.inside, tt); distinct = (tt, tt); inside = (on, tt); all = λ v k. at v k (cases_eq v goal) };
+        lined = record { below = (inside, tt); distinct = (tt, tt); inside = (on, tt); all = λ v k. at v k (cases_eq v goal) };
         long_ticked = length-set ticked goal true ∙ t;
         long_next = x;
       }
@@ -94,10 +103,10 @@ module _ {A : Algebra} (L : Lawful A) {C : Type 0} (value : C → A.Value) (n : 
   module _ (ticked : List Bool) (next joined : List ℕ) (growing : Growing A value n cells goal ticked next joined)
       (v : ℕ) (l : v < n) (free : get_or ticked v false ≡ false) where
     fits : (k : ℕ) → k ≡ most_formats → (n ≤ k) × (v < k)
-    fits k e = (omega (arith, ready.few), omega (arith, ready.few))
+    fits k e = (omega (arith, few), omega (arith, few))
 
     pub growing_room : length joined < most_formats
-    growing_room = omega (arith, lined_room n ticked joined growing.lined v l free, ready.few)
+    growing_room = omega (arith, lined_room n ticked joined growing.lined v l free, few)
 
     growing_more : (w : ℕ) → get_or ticked w false ≡ true → TightIn A value n cells goal v w → Growing A value n cells goal (set ticked v true) (set next v w) (joined ++ v ∷ [])
     growing_more w i tight = record {
@@ -160,6 +169,7 @@ module _ {A : Algebra} (L : Lawful A) {C : Type 0} (value : C → A.Value) (n : 
         done k b v l (subst (TightIn A value n cells goal v) (sym e) tight);
   }
 
+module _ {A : Algebra} (L : Lawful A) {C : Type 0} (value : C → A.Value) (n : ℕ) (cells : List (Cell C)) (goal : ℕ) (ready : Ready A value n cells goal) where
   pub full_traced : (ticked : List Bool) (next : List ℕ) → Full A value n cells goal ticked next → (v : ℕ) → v < n → (v ≡ goal → ⊥) → Traced A value n cells goal next v
   full_traced ticked next full v l ne = go (cases_Bool (get_or ticked v false))
     where

@@ -1,6 +1,7 @@
 -- Tight cards of a table of least costs: the costs on the way to the goal are near, so a combination with a card is exact,
 -- and a test of equal meaning tells whether the card is tight.
 use Rattle.std.proofs.Common.{◌≡◌, ℕ, ◌+◌, ◌-◌, ◌<◌, ◌≤◌, Bool, true, false, not, ◌&&◌, eqb, ltb, ◌⊎◌, List, Some, None, Decides, sym, refl, ap, ◌∙◌, subst, inl, inr, arith}
+use Rattle.std.proofs.Math.Logic.{∥∥₁_elim}
 use Rattle.std.specs.Option.{option_map}
 use Rattle.std.proofs.lemmas.Bool.{cases_eq, cases_lt, both_ways, eq-eqb, ne_eqb, lt-ltb, le-ltb, cond-true, cond-false, and_from}
 use Rattle.costs.specs.Algebra.{Algebra, Lawful, reach}
@@ -22,6 +23,14 @@ same_decided {A} L a b r false rn sy sn e = (λ _. go (L.one_of a b), λ _. refl
     go (inr (inl d)) = d
     go (inr (inr u)) = absurd (sn refl u)
 same_decided {A} L a b r true rn sy sn e = (λ h. absurd (both_ways false refl h), λ d. absurd (L.not_equal b a (sy refl) (sym d)))
+
+-- costs that cannot differ are equal
+equal_unless : {A : Algebra} → Lawful A → (a b : A.Value) → ((a ≡ b → ⊥) → ⊥) → a ≡ b
+equal_unless {A} L a b h = elim (L.one_of a b) [
+  | inl u ↦ absurd (h (L.not_equal a b u))
+  | inr (inl e) ↦ e
+  | inr (inr u) ↦ absurd (h (λ e. L.not_equal b a u (sym e)))
+]
 
 module _ {A : Algebra} (L : Lawful A) {C : Type 0} (value : C → A.Value) (n : ℕ) (cells : List (Cell C)) (goal : ℕ) where
   pub cards_in_is : (v w : ℕ) (r : Cell C) (c : C) → v < n → w < n → (v ≡ w → ⊥) → r ≡ cell n cells v w → r.card ≡ Some c → cards_in A value n cells v w ≡ Some (value c)
@@ -57,17 +66,18 @@ module _ {A : Algebra} (L : Lawful A) {C : Type 0} (value : C → A.Value) (n : 
         go (inr ne) = least_is_near L n (cards_in A value n cells) ready.laid.sound ready.calm v goal ne x
             (subst (λ o. Least A (cards_in A value n cells) v goal o) e (to_goal_least v ne))
 
-    -- the test of a card by the meaning of its combination with the rest of the way
-    pub tight_decided : (v w : ℕ) (c x z j : A.Value) (r : Bool) → cards_in A value n cells v w ≡ Some c → Some x ≡ to_goal A value n cells goal w →
-        Some z ≡ to_goal A value n cells goal v → ((m k : ℕ) → m + k ≤ reach → A.Within m c → A.Within k x → j ≡ A.join c x) → Decides r (j ≡ z) →
-        Decides r (TightIn A value n cells goal v w)
-    tight_decided v w c x z j r ec ex ez exact d =
-        let is = exact 1 (n - 1) (omega (arith, ready.laid.sound.small)) (L.admitted_within c (ready.laid.sound.admitted v w c ec)) (to_goal_near w x (sym ex)) in
-        (λ h. (c, x, ec, sym ex, sym ez ∙ ap Some (sym (d.0 h) ∙ is)), λ t. d.1 (is ∙ back t))
-      where
-        back : TightIn A value n cells goal v w → A.join c x ≡ z
-        back (c', x', p, q, s) =
-            let a : c ≡ c' = cc in
-            let b : x ≡ x' = cc in
-            let f : A.join c' x' ≡ z = cc in
-            ap (λ y. A.join y x) a ∙ ap (A.join c') b ∙ f
+  -- the test of a card by the meaning of its combination with the rest of the way
+  pub tight_decided : ∥ Ready A value n cells goal ∥₁ → (v w : ℕ) (c x z j : A.Value) (r : Bool) → cards_in A value n cells v w ≡ Some c → Some x ≡ to_goal A value n cells goal w →
+      Some z ≡ to_goal A value n cells goal v → ((m k : ℕ) → m + k ≤ reach → A.Within m c → A.Within k x → j ≡ A.join c x) → Decides r (j ≡ z) →
+      Decides r (TightIn A value n cells goal v w)
+  tight_decided ready v w c x z j r ec ex ez exact d =
+      let is = equal_unless L j (A.join c x) (λ ne. ∥∥₁_elim ready (λ a b. absurd a) (λ r.
+      ne (exact 1 (n - 1) (omega (arith, r.laid.sound.small)) (L.admitted_within c (r.laid.sound.admitted v w c ec)) (to_goal_near r w x (sym ex))))) in
+      (λ h. (c, x, ec, sym ex, sym ez ∙ ap Some (sym (d.0 h) ∙ is)), λ t. d.1 (is ∙ back t))
+    where
+      back : TightIn A value n cells goal v w → A.join c x ≡ z
+      back (c', x', p, q, s) =
+          let a : c ≡ c' = cc in
+          let b : x ≡ x' = cc in
+          let f : A.join c' x' ≡ z = cc in
+          ap (λ y. A.join y x) a ∙ ap (A.join c') b ∙ f

@@ -92,19 +92,6 @@ impl Queue {
     }
 }
 
-// The least cost from `from` to the goal, the unit at the goal itself.
-fn rest<C: Cost>(cells: &[Cell<C>], n: usize, goal: usize, from: usize) -> Option<C>
-    requires ready { Ready C.Cost.algebra C.Cost.value n cells.now goal }
-    requires inside { from < n }
-    ensures { option_map C.Cost.value result ≡ to_goal C.Cost.algebra C.Cost.value n cells.now goal from }
-{
-    if from == goal {
-        Some(C::unit())
-    } else {
-        cell_at(cells, n, from, goal).least
-    }
-}
-
 // Whether two costs mean the same.
 fn same<C: Cost>(one: C, other: C) -> bool
     ensures { Decides result (C.Cost.value one ≡ C.Cost.value other) }
@@ -112,73 +99,86 @@ fn same<C: Cost>(one: C, other: C) -> bool
     !one.undercuts(other) && !other.undercuts(one)
 }
 
-// Whether a card leads from `from` to `to` that is tight on the way to the goal: with the rest of the way from `to`, it costs
-// just what is least from `from`.
-fn tight<C: Cost>(cells: &[Cell<C>], n: usize, goal: usize, from: usize, to: usize) -> bool
-    requires ready { Ready C.Cost.algebra C.Cost.value n cells.now goal }
-    requires inside { (from < n) × (to < n) }
-    ensures { Decides result (TightIn C.Cost.algebra C.Cost.value n cells.now goal from to) }
-{
-    if from == to {
-        return false;
-    }
-    let Some(card) = cell_at(cells, n, from, to).card else {
-        return false;
-    };
-    match (rest(cells, n, goal, to), rest(cells, n, goal, from)) {
-        (Some(onward), Some(whole)) => same(card.join(onward), whole),
-        _ => false,
-    }
-}
-
-// Each format with a tight card to `to`, which is in the tree, joins the tree and the queue. A format is its number, so the loop
-// goes over the numbers. Ticks, next formats and queue are three arguments: a struct of them would hold two lent arrays, and each
-// function would have to say of both that they stay the same ones.
-fn scan<C: Cost>(
-    cells: &[Cell<C>],
+// A table of least costs, seen from the goal of a trace.
+#[derive(Drop)]
+struct Aim<'a, C: Cost> {
+    cells: &'a [Cell<C>],
     n: usize,
     goal: usize,
-    to: usize,
-    ticks: &mut Ticks,
-    next: &mut [usize; MOST_FORMATS],
-    queue: &mut Queue,
-)
-    requires ready { Ready C.Cost.algebra C.Cost.value n cells.now goal }
-    requires inside { (to < n) × (slice_index_or ticks.old.sheet.now to false ≡ true) }
-    requires growing { Growing C.Cost.algebra C.Cost.value n cells.now goal ticks.old.sheet.now next.old queue.old.joined }
-    ensures growing { Growing C.Cost.algebra C.Cost.value n cells.now goal ticks.new.sheet.now next.new queue.new.joined }
-    ensures wider { Wider ticks.old.sheet.now ticks.new.sheet.now queue.old.joined queue.new.joined }
-    ensures taken { queue.new.taken ≡ queue.old.taken }
-    ensures scanned { Scanned C.Cost.algebra C.Cost.value n cells.now goal ticks.new.sheet.now to n }
-    ensures same { ticks.new.sheet.ghost_name ≡ ticks.old.sheet.ghost_name }
-{
-    for from in 0..n {
-        if !ticks.has(from) && tight(cells, n, goal, from, to) {
-            ticks.tick(from);
-            next[from] = to;
-            queue.push(from);
+    // its costs are the least ones, whichever way that was shown
+    ghost ready: { ∥ Ready C.Cost.algebra C.Cost.value n cells.now goal ∥₁ },
+}
+
+impl<C: Cost> Aim<'_, C> {
+    // The least cost from `from` to the goal, the unit at the goal itself.
+    fn rest(&self, from: usize) -> Option<C>
+        requires { from < self.now.n }
+        ensures { option_map C.Cost.value result ≡ to_goal C.Cost.algebra C.Cost.value self.now.n self.now.cells.now self.now.goal from }
+    {
+        if from == self.goal {
+            Some(C::unit())
+        } else {
+            cell_at(self.cells, self.n, from, self.goal).least
         }
     }
-}
 
-// Grows the tree of tight cards backwards from the goal, breadth first: each format that joins is scanned once.
-fn grow<C: Cost>(
-    cells: &[Cell<C>],
-    n: usize,
-    goal: usize,
-    ticks: &mut Ticks,
-    next: &mut [usize; MOST_FORMATS],
-)
-    requires ready { Ready C.Cost.algebra C.Cost.value n cells.now goal }
-    requires clear { Clear ticks.old.sheet.now }
-    requires long { length ticks.old.sheet.now ≡ 64 }
-    ensures full { Full C.Cost.algebra C.Cost.value n cells.now goal ticks.new.sheet.now next.new }
-    ensures same { ticks.new.sheet.ghost_name ≡ ticks.old.sheet.ghost_name }
-{
-    ticks.tick(goal);
-    let mut queue = Queue::new(goal);
-    while let Some(to) = queue.pop() {
-        scan(cells, n, goal, to, ticks, next, &mut queue);
+    // Whether a card leads from `from` to `to` that is tight on the way to the goal: with the rest of the way from `to`, it costs
+    // just what is least from `from`.
+    fn tight(&self, from: usize, to: usize) -> bool
+        requires { (from < self.now.n) × (to < self.now.n) }
+        ensures { Decides result (TightIn C.Cost.algebra C.Cost.value self.now.n self.now.cells.now self.now.goal from to) }
+    {
+        if from == to {
+            return false;
+        }
+        let Some(card) = cell_at(self.cells, self.n, from, to).card else {
+            return false;
+        };
+        match (self.rest(to), self.rest(from)) {
+            (Some(onward), Some(whole)) => same(card.join(onward), whole),
+            _ => false,
+        }
+    }
+
+    // Each format with a tight card to `to`, which is in the tree, joins the tree and the queue. A format is its number, so the
+    // loop goes over the numbers. Ticks, next formats and queue are three arguments: a struct of them would hold two lent arrays,
+    // and each function would have to say of both that they stay the same ones.
+    fn scan(
+        &self,
+        to: usize,
+        ticks: &mut Ticks,
+        next: &mut [usize; MOST_FORMATS],
+        queue: &mut Queue,
+    )
+        requires inside { (to < self.now.n) × (slice_index_or ticks.old.sheet.now to false ≡ true) }
+        requires growing { Growing C.Cost.algebra C.Cost.value self.now.n self.now.cells.now self.now.goal ticks.old.sheet.now next.old queue.old.joined }
+        ensures growing { Growing C.Cost.algebra C.Cost.value self.now.n self.now.cells.now self.now.goal ticks.new.sheet.now next.new queue.new.joined }
+        ensures wider { Wider ticks.old.sheet.now ticks.new.sheet.now queue.old.joined queue.new.joined }
+        ensures taken { queue.new.taken ≡ queue.old.taken }
+        ensures scanned { Scanned C.Cost.algebra C.Cost.value self.now.n self.now.cells.now self.now.goal ticks.new.sheet.now to self.now.n }
+        ensures same { ticks.new.sheet.ghost_name ≡ ticks.old.sheet.ghost_name }
+    {
+        for from in 0..self.n {
+            if !ticks.has(from) && self.tight(from, to) {
+                ticks.tick(from);
+                next[from] = to;
+                queue.push(from);
+            }
+        }
+    }
+
+    // Grows the tree of tight cards backwards from the goal, breadth first: each format that joins is scanned once.
+    fn grow(&self, ticks: &mut Ticks, next: &mut [usize; MOST_FORMATS])
+        requires clear { Clear ticks.old.sheet.now }
+        requires long { length ticks.old.sheet.now ≡ 64 }
+        ensures full { Full C.Cost.algebra C.Cost.value self.now.n self.now.cells.now self.now.goal ticks.new.sheet.now next.new }
+        ensures same { ticks.new.sheet.ghost_name ≡ ticks.old.sheet.ghost_name }
+    {
+        ticks.tick(self.goal);
+        let mut queue = Queue::new(self.goal);
+        while let Some(to) = queue.pop() {
+            self.scan(to, ticks, next, &mut queue);
+        }
     }
 }
 
@@ -201,5 +201,6 @@ pub fn trace<C: Cost>(
     ensures traced { (v : ℕ) → v < n → (v ≢ goal) → Traced C.Cost.algebra C.Cost.value n cells.now goal next.new v }
 {
     let mut ticks = Ticks { sheet };
-    grow(cells, n, goal, &mut ticks, next);
+    let aim = Aim { cells, n, goal };
+    aim.grow(&mut ticks, next);
 }

@@ -1,11 +1,11 @@
 -- Each format that is taken out of the queue is scanned, and the tree is grown when all of them are.
 use Rattle.std.proofs.Common.{◌≡◌, ◌+◌, refl, ap, ◌∙◌, arith}
 use Rattle.walks.proofs.Growth.{growing_start, growing_few, growing_at, queue_more, growing_full}
-use Rattle.walks.proofs.trail.grow.Goals as goal
+use Rattle.walks.proofs.trail.Aim.grow.Goals as goal
 
 pub loop-to-init : goal.loop-to-init
 loop-to-init g c =
-    let start = growing_start g.met.C.Cost.lawful g.C.Cost.value _ _ _ c.requires.ready _ _ c.requires.long c.told-next c.requires.clear in
+    let start = growing_start g.met.C.Cost.lawful g.C.Cost.value _ _ _ c.args.self.now.ready _ _ c.requires.long c.told-next c.requires.clear in
     rw (c.new-queue.ensures, c.tick.ensures.ticked) (start, omega arith, λ k l. absurd (omega arith), refl)
 
 pub scan-requires : goal.scan-requires
@@ -13,8 +13,7 @@ scan-requires g c =
     let (growing, few, done, same) = c.loop-to.invariant in
     let (waits, to, on) = c.in-Some.ensures in
     record {
-      ready = c.requires.ready;
-      inside = rw to (growing_at g.met.C.Cost.lawful g.C.Cost.value _ _ _ c.requires.ready _ _ _ growing _ waits);
+      inside = rw to (growing_at g.met.C.Cost.lawful g.C.Cost.value _ _ _ c.args.self.now.ready _ _ _ growing _ waits);
       growing = rw on growing;
     }
 
@@ -27,14 +26,14 @@ loop-to-preserved g c =
     let taken : c.scan.new.queue.taken ≡ c.loop-to.queue.taken + 1 = e.taken ∙ ap (λ q. q.taken) on in (
       e.growing,
       omega (arith, wider.rises),
-      rw taken (queue_more g.met.C.Cost.lawful g.C.Cost.value _ _ _ c.requires.ready _ _ _ _ _ waits wider done (rw to at e.scanned)),
+      rw taken (queue_more g.met.C.Cost.lawful g.C.Cost.value _ _ _ c.args.self.now.ready _ _ _ _ _ waits wider done (rw to at e.scanned)),
       e.same ∙ same,
     )
 
 pub loop-to-smaller : goal.loop-to-smaller
 loop-to-smaller g c =
     let (waits, to, on) = c.in-Some.ensures in
-    let few = growing_few g.met.C.Cost.lawful g.C.Cost.value _ _ _ c.requires.ready _ _ _ c.loop-to.invariant.0 in
+    let few = growing_few g.met.C.Cost.lawful g.C.Cost.value _ _ _ c.args.self.now.ready _ _ _ c.loop-to.invariant.0 in
     let taken : c.scan.new.queue.taken ≡ c.loop-to.queue.taken + 1 = c.scan.ensures.taken ∙ ap (λ q. q.taken) on in
     omega arith
 
@@ -43,6 +42,6 @@ returns g c =
     let (growing, few, done, same) = c.loop-to.invariant in
     let end = c.in_default.ensures.0 in
     record {
-      full = growing_full g.met.C.Cost.lawful g.C.Cost.value _ _ _ c.requires.ready _ _ _ growing (λ k l. done k (omega arith));
+      full = growing_full g.met.C.Cost.lawful g.C.Cost.value _ _ _ c.args.self.now.ready _ _ _ growing (λ k l. done k (omega arith));
       same = same ∙ c.tick.ensures.same;
     }
