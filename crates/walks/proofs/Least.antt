@@ -6,6 +6,14 @@ use Rattle.costs.specs.Algebra.{Algebra, Lawful}
 use Rattle.walks.specs.Walk.{LeastOf}
 use Rattle.walks.specs.Theorems.{Joined, Either}
 
+-- costs that cannot differ are equal
+pub equal_unless : {A : Algebra} → Lawful A → (a b : A.Value) → ((a ≡ b → ⊥) → ⊥) → a ≡ b
+equal_unless {A} L a b h = elim (L.one_of a b) [
+  | inl u ↦ absurd (h (L.not_equal a b u))
+  | inr (inl e) ↦ e
+  | inr (inr u) ↦ absurd (h (λ e. L.not_equal b a u (sym e)))
+]
+
 module _ (A : Algebra) where
   abbrev pub AtMost : A.Value → A.Value → Type 0
   AtMost a b = A.Under b a → ⊥

@@ -2,6 +2,8 @@
 -- The cell of s and t stands at s * n + t.
 use Rattle.std.proofs.Common.{◌≡◌, ℕ, suc, ◌+◌, ◌*◌, ◌/◌, ◌%◌, ◌<◌, ◌≤◌, cond, not, ◌&&◌, eqb, ltb, ◌⊎◌, Bool, true, false, List, length, get_or, set, Some, None, Option, Decides, sym, refl, ap, ◌∙◌, subst, subst₂, inl, inr, arith}
 use mathlib.Core.Path.{subst₃, fun_ext}
+use Rattle.std.proofs.Math.Logic.{∥∥₁_elim}
+use Rattle.std.specs.Coded.{le_prop}
 use Rattle.std.specs.Option.{option_map}
 use Rattle.std.proofs.lemmas.List.{length-set, get_or-set_same, get_or-set_other}
 use Rattle.std.proofs.lemmas.Nat.{mul-add-lt, div-mul-add, mod-mul-add}
@@ -12,7 +14,7 @@ use Rattle.walks.specs.Theorems.{Sound, Either}
 use Rattle.walks.specs.Cells.{empty, cell, Beyond, Kept, Laid, cards_in, least_in}
 use Rattle.walks.specs.Eliminated.{Block, Cross, Joinable, UndercutUnit, Near, Ready, Improved}
 use Rattle.walks.specs.declared.cells.Cell.{Cell}
-use Rattle.walks.proofs.Least.{either_new, either_better, either_kept, joined_is}
+use Rattle.walks.proofs.Least.{equal_unless, either_new, either_better, either_kept, joined_is}
 
 -- addresses
 pub place_lt : (n s t : ℕ) → s < n → t < n → s * n + t < n * n
@@ -141,6 +143,17 @@ module _ (A : Algebra) {C : Type 0} (value : C → A.Value) (n : ℕ) where
     );
   }
 
+  -- what a table that is ready for a pass is known for, whichever way that was shown
+  module _ (k : ℕ) (cells : List (Cell C)) (ready : ∥ Ready A value n k cells ∥₁) where
+    pub ready_room : n * n ≤ length cells
+    ready_room = ∥∥₁_elim ready le_prop (λ r. r.room)
+
+    pub ready_inside : k < n
+    ready_inside = ∥∥₁_elim ready le_prop (λ r. r.inside)
+
+    pub ready_place : (s t : ℕ) → s < n → t < n → s * n + t < length cells
+    ready_place s t ls lt = omega (arith, place_lt n s t ls lt, ready_room)
+
   -- a block and the next, to the right or below, where the pivot lies in none of the rows and columns
   pub block_right : (k r r' c m c' : ℕ) (first second third : List (Cell C)) → k < n → c ≤ m → m ≤ c' → (r ≤ k → k < r' → ⊥) → (c ≤ k → k < m → ⊥) →
       Improved A value n k (Block r r' c m) first second → Improved A value n k (Block r r' m c') second third → Improved A value n k (Block r r' c c') first third
@@ -203,10 +216,10 @@ module _ (A : Algebra) {C : Type 0} (value : C → A.Value) (n : ℕ) where
           column (inr g) = absurd (omega arith)
 
 -- y is held for the combination of the costs p and q: it is exact, so what is told by it is told by them
-module _ {A : Algebra} (L : Lawful A) (p q : Option A.Value) (joinable : Joinable A p q) (a b y : A.Value) (ep : p ≡ Some a) (eq : q ≡ Some b)
+module _ {A : Algebra} (L : Lawful A) (p q : Option A.Value) (joinable : ∥ Joinable A p q ∥₁) (a b y : A.Value) (ep : p ≡ Some a) (eq : q ≡ Some b)
     (exact : (m k : ℕ) → m + k ≤ reach → A.Within m a → A.Within k b → y ≡ A.join a b) where
   joined : y ≡ A.join a b
-  joined = let (m, k, few, near, near') = joinable a b ep eq in exact m k few near near'
+  joined = equal_unless L y (A.join a b) (λ ne. ∥∥₁_elim joinable (λ x z. absurd x) (λ j. let (m, k, few, near, near') = j a b ep eq in ne (exact m k few near near')))
 
   pub held_new : (o : Option A.Value) → o ≡ None → LeastOf A (Either A o p q) (Some y)
   held_new o eo = subst (λ x. LeastOf A (Either A o p q) (Some x)) (sym joined) (either_new L o p q a b eo ep eq)

@@ -9,6 +9,7 @@ use Rattle.walks.specs.Walk.{Least}
 use Rattle.walks.specs.Cells.{cell, cards_in, least_in}
 use Rattle.walks.specs.Tracing.{to_goal, Ready, TightIn}
 use Rattle.walks.specs.declared.cells.Cell.{Cell}
+use Rattle.walks.proofs.Least.{equal_unless}
 use Rattle.walks.proofs.Runs.{to_runs}
 use Rattle.walks.proofs.Loops.{runs_inside}
 use Rattle.walks.proofs.Cut.{least_is_near}
@@ -23,14 +24,6 @@ same_decided {A} L a b r false rn sy sn e = (λ _. go (L.one_of a b), λ _. refl
     go (inr (inl d)) = d
     go (inr (inr u)) = absurd (sn refl u)
 same_decided {A} L a b r true rn sy sn e = (λ h. absurd (both_ways false refl h), λ d. absurd (L.not_equal b a (sy refl) (sym d)))
-
--- costs that cannot differ are equal
-equal_unless : {A : Algebra} → Lawful A → (a b : A.Value) → ((a ≡ b → ⊥) → ⊥) → a ≡ b
-equal_unless {A} L a b h = elim (L.one_of a b) [
-  | inl u ↦ absurd (h (L.not_equal a b u))
-  | inr (inl e) ↦ e
-  | inr (inr u) ↦ absurd (h (λ e. L.not_equal b a u (sym e)))
-]
 
 module _ {A : Algebra} (L : Lawful A) {C : Type 0} (value : C → A.Value) (n : ℕ) (cells : List (Cell C)) (goal : ℕ) where
   pub cards_in_is : (v w : ℕ) (r : Cell C) (c : C) → v < n → w < n → (v ≡ w → ⊥) → r ≡ cell n cells v w → r.card ≡ Some c → cards_in A value n cells v w ≡ Some (value c)

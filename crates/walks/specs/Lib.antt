@@ -5,5 +5,6 @@ pub mod Cells
 pub mod Tracing
 pub mod Sheet
 pub mod Eliminated
+pub mod Pivots
 pub mod Solved
 pub mod Cases

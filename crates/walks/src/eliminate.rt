@@ -1,11 +1,12 @@
 // Three stages that bring a table of cells, each with its card's cost, to least costs.
+// The stages take the slice and n beside it, as their callers hold them, and make a pivot of both for each format.
 // They go over formats by `for` and range: a format is its number, and where its cells lie is computed from it.
 ghost use Rattle.std.specs.Prelude.{◌≡◌, ℕ, ◌+◌, ◌*◌, ◌<◌, ◌≤◌, true, false, Decides, ◌≢◌};
 ghost use Rattle.std.specs.Option.{option_map};
 ghost use Rattle.walks.specs.Walk.{LeastOf};
 ghost use Rattle.walks.specs.Theorems.{Either};
 ghost use Rattle.walks.specs.Cells.{Laid, Kept, Each, cards_in};
-ghost use Rattle.walks.specs.Eliminated.{Block, Cross, Joinable, UndercutUnit, Calmed, Ready, Improved, Closes, FirstDone, SecondDone, ThirdDone, SweptTo, FirstFound};
+ghost use Rattle.walks.specs.Eliminated.{Block, Cross, Joinable, UndercutUnit, Calmed, Ready, FirstDone, SecondDone, ThirdDone, SweptTo, FirstFound};
 
 use crate::Cell;
 use crate::cells::cell_at;
@@ -13,7 +14,7 @@ use costs::Cost;
 
 // The better of a held cost and the combination of two, where both are there.
 fn better<C: Cost>(held: Option<C>, first: Option<C>, second: Option<C>) -> Option<C>
-    requires { Joinable C.Cost.algebra (option_map C.Cost.value first) (option_map C.Cost.value second) }
+    requires { ∥ Joinable C.Cost.algebra (option_map C.Cost.value first) (option_map C.Cost.value second) ∥₁ }
     ensures { LeastOf C.Cost.algebra (Either C.Cost.algebra (option_map C.Cost.value held) (option_map C.Cost.value first) (option_map C.Cost.value second)) (option_map C.Cost.value result) }
 {
     let (Some(one), Some(two)) = (first, second) else {
@@ -28,7 +29,7 @@ fn better<C: Cost>(held: Option<C>, first: Option<C>, second: Option<C>) -> Opti
 
 // Whether the cost there and the cost back are both there, and undercut the unit together.
 pub(crate) fn undercut_unit<C: Cost>(there: Option<C>, back: Option<C>) -> bool
-    requires { Joinable C.Cost.algebra (option_map C.Cost.value there) (option_map C.Cost.value back) }
+    requires { ∥ Joinable C.Cost.algebra (option_map C.Cost.value there) (option_map C.Cost.value back) ∥₁ }
     ensures { Decides result (UndercutUnit C.Cost.algebra (option_map C.Cost.value there) (option_map C.Cost.value back)) }
 {
     match (there, back) {
@@ -37,80 +38,85 @@ pub(crate) fn undercut_unit<C: Cost>(there: Option<C>, back: Option<C>) -> bool
     }
 }
 
-// One cell by way of the pivot.
-fn improve<C: Cost>(cells: &mut [Cell<C>], n: usize, s: usize, pivot: usize, t: usize)
-    requires ready { Ready C.Cost.algebra C.Cost.value n pivot cells.old }
-    requires row { (s < n) × (s ≢ pivot) }
-    requires column { (t < n) × (t ≢ pivot) }
-    requires apart { s ≢ t }
-    ensures { Improved C.Cost.algebra C.Cost.value n pivot (Block s (s + 1) t (t + 1)) cells.old cells.new }
-{
-    let first = cell_at(cells, n, s, pivot).least;
-    let second = cell_at(cells, n, pivot, t).least;
-    let cell = &mut cells[s * n + t];
-    cell.least = better(cell.least, first, second);
+// A table of the costs between n formats, and the pivot: the format by way of which its cells are improved.
+#[derive(Drop)]
+struct Pivot<'a, C: Cost> {
+    cells: &'a mut [Cell<C>],
+    n: usize,
+    at: usize,
+    // the costs to and from the pivot are near, whichever way that was shown
+    ghost ready: { ∥ Ready C.Cost.algebra C.Cost.value n at cells.now ∥₁ },
 }
 
-// Every cell of `s` and a format from `low` to `high`, by way of the pivot.
-fn pass_row<C: Cost>(
-    cells: &mut [Cell<C>],
-    n: usize,
-    pivot: usize,
-    s: usize,
-    low: usize,
-    high: usize,
-)
-    requires ready { Ready C.Cost.algebra C.Cost.value n pivot cells.old }
-    requires row { (s < n) × (s ≢ pivot) }
-    requires columns { (low ≤ high) × (high ≤ n) × ((low ≤ pivot) → (pivot < high) → ⊥) }
-    ensures { Improved C.Cost.algebra C.Cost.value n pivot (Block s (s + 1) low high) cells.old cells.new }
-{
-    for t in low..high {
-        if t != s {
-            improve(cells, n, s, pivot, t);
+impl<C: Cost> Pivot<'_, C> {
+    ghost use Rattle.walks.specs.Pivots.{ClosesBy, Passed};
+
+    // One cell.
+    fn improve(&mut self, s: usize, t: usize)
+        requires row { (s < self.old.n) × (s ≢ self.old.at) }
+        requires column { (t < self.old.n) × (t ≢ self.old.at) }
+        requires apart { s ≢ t }
+        ensures { Passed (Block s (s + 1) t (t + 1)) self.old self.new }
+    {
+        let cells = &mut *self.cells;
+        let first = cell_at(cells, self.n, s, self.at).least;
+        let second = cell_at(cells, self.n, self.at, t).least;
+        let cell = &mut cells[s * self.n + t];
+        cell.least = better(cell.least, first, second);
+    }
+
+    // Every cell of `s` and a format from `low` to `high`.
+    fn pass_row(&mut self, s: usize, low: usize, high: usize)
+        requires row { (s < self.old.n) × (s ≢ self.old.at) }
+        requires columns { (low ≤ high) × (high ≤ self.old.n) × ((low ≤ self.old.at) → (self.old.at < high) → ⊥) }
+        ensures { Passed (Block s (s + 1) low high) self.old self.new }
+    {
+        for t in low..high {
+            if t != s {
+                self.improve(s, t);
+            }
         }
     }
-}
 
-// Every cell of two formats from `low` to `high`, by way of a pivot outside of them.
-fn pass<C: Cost>(cells: &mut [Cell<C>], n: usize, pivot: usize, low: usize, high: usize)
-    requires ready { Ready C.Cost.algebra C.Cost.value n pivot cells.old }
-    requires square { (low ≤ high) × (high ≤ n) × ((low ≤ pivot) → (pivot < high) → ⊥) }
-    ensures { Improved C.Cost.algebra C.Cost.value n pivot (Block low high low high) cells.old cells.new }
-{
-    for s in low..high {
-        pass_row(cells, n, pivot, s, low, high);
+    // Every cell of two formats from `low` to `high`, which the pivot is outside of.
+    fn pass(&mut self, low: usize, high: usize)
+        requires square { (low ≤ high) × (high ≤ self.old.n) × ((low ≤ self.old.at) → (self.old.at < high) → ⊥) }
+        ensures { Passed (Block low high low high) self.old self.new }
+    {
+        for s in low..high {
+            self.pass_row(s, low, high);
+        }
     }
-}
 
-// Every cell of `t` and a format above the pivot, in both directions, by way of the pivot.
-fn turn<C: Cost>(cells: &mut [Cell<C>], n: usize, t: usize, pivot: usize)
-    requires ready { Ready C.Cost.algebra C.Cost.value n pivot cells.old }
-    requires lower { t < pivot }
-    ensures { Improved C.Cost.algebra C.Cost.value n pivot (Cross t (pivot + 1) n) cells.old cells.new }
-{
-    for s in pivot + 1..n {
-        improve(cells, n, s, pivot, t);
-        improve(cells, n, t, pivot, s);
+    // Every cell of `t` and a format above the pivot, in both directions.
+    fn turn(&mut self, t: usize)
+        requires lower { t < self.old.at }
+        ensures { Passed (Cross t (self.old.at + 1) self.old.n) self.old self.new }
+    {
+        for s in self.at + 1..self.n {
+            self.improve(s, t);
+            self.improve(t, s);
+        }
     }
-}
 
-// Whether the costs from `h` to `k` and back undercut the unit.
-fn closes<C: Cost>(cells: &[Cell<C>], n: usize, h: usize, k: usize) -> bool
-    requires ready { Ready C.Cost.algebra C.Cost.value n h cells.now }
-    requires lower { k < h }
-    ensures { Decides result (Closes C.Cost.algebra C.Cost.value n cells.now h k) }
-{
-    undercut_unit(cell_at(cells, n, h, k).least, cell_at(cells, n, k, h).least)
-}
+    // Whether the costs from the pivot to `k` and back undercut the unit.
+    fn closes(&self, k: usize) -> bool
+        requires lower { k < self.now.at }
+        ensures { Decides result (ClosesBy self.now k) }
+    {
+        undercut_unit(
+            cell_at(self.cells, self.n, self.at, k).least,
+            cell_at(self.cells, self.n, k, self.at).least,
+        )
+    }
 
-// Whether the costs from `h` to some lower format and back undercut the unit.
-fn looks<C: Cost>(cells: &[Cell<C>], n: usize, h: usize) -> bool
-    requires ready { Ready C.Cost.algebra C.Cost.value n h cells.now }
-    ensures yes { result ≡ true → (k : ℕ) × (k < h) × Closes C.Cost.algebra C.Cost.value n cells.now h k }
-    ensures no { result ≡ false → (k : ℕ) → k < h → Closes C.Cost.algebra C.Cost.value n cells.now h k → ⊥ }
-{
-    (0..h).any(|k| closes(cells, n, h, k))
+    // Whether the costs from the pivot to some lower format and back undercut the unit.
+    fn looks(&self) -> bool
+        ensures yes { result ≡ true → (k : ℕ) × (k < self.now.at) × ClosesBy self.now k }
+        ensures no { result ≡ false → (k : ℕ) → k < self.now.at → ClosesBy self.now k → ⊥ }
+    {
+        (0..self.at).any(|k| self.closes(k))
+    }
 }
 
 // The first stage: the first format at which a closed walk through lower ones undercuts the unit, or every cell's least cost
@@ -122,10 +128,11 @@ pub fn first_stage<C: Cost>(cells: &mut [Cell<C>], n: usize) -> Option<usize>
     ensures found { FirstFound C.Cost.algebra C.Cost.value n (cards_in C.Cost.algebra C.Cost.value n cells.old) cells.new result }
 {
     for h in 0..n {
-        if looks(cells, n, h) {
+        let mut pivot = Pivot { cells, n, at: h };
+        if pivot.looks() {
             return Some(h);
         }
-        pass(cells, n, h, h + 1, n);
+        pivot.pass(h + 1, n);
     }
     None
 }
@@ -140,7 +147,8 @@ fn sweep<C: Cost>(cells: &mut [Cell<C>], n: usize, t: usize)
     ensures swept { SweptTo C.Cost.algebra C.Cost.value n (cards_in C.Cost.algebra C.Cost.value n cells.old) cells.new (t + 1) (t + 1) }
 {
     for k in t + 1..n {
-        turn(cells, n, t, k);
+        let mut pivot = Pivot { cells, n, at: k };
+        pivot.turn(t);
     }
 }
 
@@ -166,6 +174,7 @@ pub fn third_stage<C: Cost>(cells: &mut [Cell<C>], n: usize)
     ensures least { ThirdDone C.Cost.algebra C.Cost.value n (cards_in C.Cost.algebra C.Cost.value n cells.old) cells.new }
 {
     for k in (1..n).rev() {
-        pass(cells, n, k, 0, k);
+        let mut pivot = Pivot { cells, n, at: k };
+        pivot.pass(0, k);
     }
 }

@@ -3,12 +3,13 @@ use Rattle.std.proofs.Common.{ℕ, refl, arith, rules}
 use Rattle.std.proofs.lemmas.Iterator.{YieldsList-from_range, cases_from_any}
 use Rattle.walks.specs.Eliminated.{Closes}
 use Rattle.walks.proofs.Ranges.{any_below}
-use Rattle.walks.proofs.eliminate.looks.Goals as goal
+use Rattle.walks.proofs.eliminate.Pivot.looks.Goals as goal
 
 pub returns : goal.returns
 returns g c =
-    let h = c.args.h in
-    let P : ℕ → Type 0 = Closes g.C.Cost.algebra g.C.Cost.value c.args.n c.args.cells.now h in
+    let p = c.args.self.now in
+    let h = p.at in
+    let P : ℕ → Type 0 = Closes g.C.Cost.algebra g.C.Cost.value p.n p.cells.now h in
     let any = cases_from_any _ _ _ P (λ k. P k → ⊥) c.any.ensures.ran (YieldsList-from_range 0 h h refl (omega arith)) (λ x q k. search rules) (λ x q k. search rules) in
     let (some, none) = any_below P h _ any in
     record { yes = some; no = none }

@@ -1,0 +1,28 @@
+-- A square of cells, row by row; the pivot lies in none of the rows and columns.
+use Rattle.std.proofs.Common.{◌≡◌, subst, arith}
+use Rattle.walks.specs.Eliminated.{Block}
+use Rattle.walks.specs.Pivots.{Passed}
+use Rattle.walks.proofs.Passes.{block_down}
+use Rattle.walks.proofs.PivotSteps.{inside, passed_none, passed_then}
+use Rattle.walks.proofs.eliminate.Pivot.pass.Goals as goal
+
+pub loop-s-init : goal.loop-s-init
+loop-s-init g c = passed_none _ _ (λ s t h. absurd (omega arith))
+
+pub pass_row-requires : goal.pass_row-requires
+pass_row-requires g c =
+    let same = c.loop-s.invariant.same in
+    record {
+      row = rw (same.n, same.at) (omega arith, λ e. c.requires.square.2 (omega arith) (omega arith));
+      columns = rw (same.n, same.at) c.requires.square;
+    }
+
+pub loop-s-preserved : goal.loop-s-preserved
+loop-s-preserved g c =
+    passed_then (block_down _ _ _ _ _ _ _ _ _ _ _ _ (inside c.args.self.now) (omega arith) (omega arith) (λ l u. c.requires.square.2 l (omega arith)) c.requires.square.2)
+    c.loop-s.invariant c.pass_row.ensures
+
+pub returns : goal.returns
+returns g c =
+    let end : c.loop-s.s ≡ c.args.high = let upto = c.loop-s.auto.s-end c.requires.square.0 in omega arith in
+    subst (λ j. Passed (Block c.args.low j c.args.low c.args.high) c.args.self.now c.loop-s.self) end c.loop-s.invariant
