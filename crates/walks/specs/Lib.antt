@@ -3,6 +3,7 @@ pub mod Theorems
 pub mod Price
 pub mod Cells
 pub mod Tracing
+pub mod Aims
 pub mod Sheet
 pub mod Eliminated
 pub mod Pivots

@@ -51,13 +51,14 @@ struct Pivot<'a, C: Cost> {
 impl<C: Cost> Pivot<'_, C> {
     ghost use Rattle.walks.specs.Pivots.{ClosesBy, Passed};
 
-    // One cell.
+    // One cell by way of the pivot.
     fn improve(&mut self, s: usize, t: usize)
         requires row { (s < self.old.n) × (s ≢ self.old.at) }
         requires column { (t < self.old.n) × (t ≢ self.old.at) }
         requires apart { s ≢ t }
         ensures { Passed (Block s (s + 1) t (t + 1)) self.old self.new }
     {
+        // Lent once more first: the checker covers no slice in a field behind a `&mut` that is lent as `&`.
         let cells = &mut *self.cells;
         let first = cell_at(cells, self.n, s, self.at).least;
         let second = cell_at(cells, self.n, self.at, t).least;
@@ -65,7 +66,7 @@ impl<C: Cost> Pivot<'_, C> {
         cell.least = better(cell.least, first, second);
     }
 
-    // Every cell of `s` and a format from `low` to `high`.
+    // Every cell of `s` and a format from `low` to `high`, by way of the pivot.
     fn pass_row(&mut self, s: usize, low: usize, high: usize)
         requires row { (s < self.old.n) × (s ≢ self.old.at) }
         requires columns { (low ≤ high) × (high ≤ self.old.n) × ((low ≤ self.old.at) → (self.old.at < high) → ⊥) }
@@ -78,7 +79,7 @@ impl<C: Cost> Pivot<'_, C> {
         }
     }
 
-    // Every cell of two formats from `low` to `high`, which the pivot is outside of.
+    // Every cell of two formats from `low` to `high`, by way of the pivot, which is outside of them.
     fn pass(&mut self, low: usize, high: usize)
         requires square { (low ≤ high) × (high ≤ self.old.n) × ((low ≤ self.old.at) → (self.old.at < high) → ⊥) }
         ensures { Passed (Block low high low high) self.old self.new }
@@ -88,7 +89,7 @@ impl<C: Cost> Pivot<'_, C> {
         }
     }
 
-    // Every cell of `t` and a format above the pivot, in both directions.
+    // Every cell of `t` and a format above the pivot, in both directions, by way of the pivot.
     fn turn(&mut self, t: usize)
         requires lower { t < self.old.at }
         ensures { Passed (Cross t (self.old.at + 1) self.old.n) self.old self.new }

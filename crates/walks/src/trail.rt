@@ -3,7 +3,7 @@ ghost use Rattle.std.specs.Prelude.{◌≡◌, ℕ, ◌+◌, ◌<◌, ◌≤◌,
 ghost use Rattle.std.specs.Option.{option_map};
 ghost use Rattle.walks.specs.Cells.{Laid, cards_in, least_in};
 ghost use Rattle.walks.specs.Walk.{Gains, Least};
-ghost use Rattle.walks.specs.Tracing.{Clear, Full, Growing, Ready, Scanned, TightIn, Traced, Wider, to_goal};
+ghost use Rattle.walks.specs.Tracing.{Clear, Ready, Traced, Wider};
 
 use crate::cells::{Cell, cell_at};
 use costs::Cost;
@@ -110,10 +110,12 @@ struct Aim<'a, C: Cost> {
 }
 
 impl<C: Cost> Aim<'_, C> {
+    ghost use Rattle.walks.specs.Aims.{FullBy, GrowingBy, ScannedBy, TightBy, rest_of};
+
     // The least cost from `from` to the goal, the unit at the goal itself.
     fn rest(&self, from: usize) -> Option<C>
         requires { from < self.now.n }
-        ensures { option_map C.Cost.value result ≡ to_goal C.Cost.algebra C.Cost.value self.now.n self.now.cells.now self.now.goal from }
+        ensures { option_map C.Cost.value result ≡ rest_of self.now from }
     {
         if from == self.goal {
             Some(C::unit())
@@ -126,7 +128,7 @@ impl<C: Cost> Aim<'_, C> {
     // just what is least from `from`.
     fn tight(&self, from: usize, to: usize) -> bool
         requires { (from < self.now.n) × (to < self.now.n) }
-        ensures { Decides result (TightIn C.Cost.algebra C.Cost.value self.now.n self.now.cells.now self.now.goal from to) }
+        ensures { Decides result (TightBy self.now from to) }
     {
         if from == to {
             return false;
@@ -151,11 +153,11 @@ impl<C: Cost> Aim<'_, C> {
         queue: &mut Queue,
     )
         requires inside { (to < self.now.n) × (slice_index_or ticks.old.sheet.now to false ≡ true) }
-        requires growing { Growing C.Cost.algebra C.Cost.value self.now.n self.now.cells.now self.now.goal ticks.old.sheet.now next.old queue.old.joined }
-        ensures growing { Growing C.Cost.algebra C.Cost.value self.now.n self.now.cells.now self.now.goal ticks.new.sheet.now next.new queue.new.joined }
+        requires growing { GrowingBy self.now ticks.old.sheet.now next.old queue.old.joined }
+        ensures growing { GrowingBy self.now ticks.new.sheet.now next.new queue.new.joined }
         ensures wider { Wider ticks.old.sheet.now ticks.new.sheet.now queue.old.joined queue.new.joined }
         ensures taken { queue.new.taken ≡ queue.old.taken }
-        ensures scanned { Scanned C.Cost.algebra C.Cost.value self.now.n self.now.cells.now self.now.goal ticks.new.sheet.now to self.now.n }
+        ensures scanned { ScannedBy self.now ticks.new.sheet.now to }
         ensures same { ticks.new.sheet.ghost_name ≡ ticks.old.sheet.ghost_name }
     {
         for from in 0..self.n {
@@ -171,7 +173,7 @@ impl<C: Cost> Aim<'_, C> {
     fn grow(&self, ticks: &mut Ticks, next: &mut [usize; MOST_FORMATS])
         requires clear { Clear ticks.old.sheet.now }
         requires long { length ticks.old.sheet.now ≡ 64 }
-        ensures full { Full C.Cost.algebra C.Cost.value self.now.n self.now.cells.now self.now.goal ticks.new.sheet.now next.new }
+        ensures full { FullBy self.now ticks.new.sheet.now next.new }
         ensures same { ticks.new.sheet.ghost_name ≡ ticks.old.sheet.ghost_name }
     {
         ticks.tick(self.goal);
