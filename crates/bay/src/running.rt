@@ -81,8 +81,8 @@ impl<R: Register> Bay<R> {
         }
     }
 
-    // A call on the cards and the legs alone, with its answer, or why it is refused; none where the call is a route, which alone
-    // works in the table and the sheets.
+    // A call on the cards and the legs alone, with its answer, or why it is refused; none where the call is a route, which
+    // alone works in the table and the sheets.
     fn edit(&mut self, call: Call<R::Cost>) -> Result<Option<Answer<R::Cost>>, BayFault>
         ensures { EditAnswer R.Cost.Cost.algebra R.Cost.Cost.value (plain R.Cost.Cost.algebra R.Cost.Cost.value R.Register.holds self.old) (plain R.Cost.Cost.algebra R.Cost.Cost.value R.Register.holds self.new) (booked self.old.legs) (booked self.new.legs) call result }
     {
@@ -105,7 +105,8 @@ impl<R: Register> Bay<R> {
         }
     }
 
-    // Any one call. Table and sheets are three arguments, as in `route`. Want of memory for what a route would write is found before it begins, and then nothing is done.
+    // Any one call. Table and sheets are three arguments, as in `route`. Want of memory for what a route would write is found
+    // before it begins, and then nothing is done.
     pub fn call(
         &mut self,
         heap: Global,

@@ -18,8 +18,7 @@ use registers::MOST_FORMATS;
 use walks::{Cell, cell_at, trace, write_chain, write_no_chain};
 
 // What a route writes: leg k with its note, entry k of the cost sheet and row k of the chain sheet. The table and its size n
-// stand beside it as two arguments, as in the stages and the trace. What its methods ask is in clauses, since no invariant can speak
-// of what a `&mut` field holds while a part of it is lent.
+// stand beside it as two arguments, as in the stages and the trace.
 #[derive(Drop)]
 pub(crate) struct Page<'a, C> {
     pub(crate) legs: &'a mut Legs,

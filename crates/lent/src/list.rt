@@ -23,8 +23,8 @@ pub struct Entry<C> {
     pub cost: C,
 }
 
-// A register of `n` formats that takes one of `entries` for each card, in any order and searched from the front: a map would ask
-// for memory of its own. Where `n` or the memory will not do, it has no card and no free place, and every pair is sealed.
+// A register of `n` formats that takes one of `entries` for each card, in any order and searched from the front: a map would
+// ask for memory of its own. Where `n` or the memory will not do, it has no card and no free place, and every pair is sealed.
 #[derive(Drop)]
 pub struct List<'a, C> {
     n: usize,
@@ -194,7 +194,8 @@ impl<'a, C: Cost> Register for List<'a, C> {
         Ok(())
     }
 
-    // Also what happens to the lent memory, in clauses since they are promises to its lender: a granted call clears the pair's entries, and nothing else is touched.
+    // Also what happens to the lent memory, in clauses since they are promises to its lender: a granted call clears the pair's
+    // entries, and nothing else is touched.
     fn withdraw(&mut self, from: Format, to: Format) -> Result<(), RegisterFault>
         ensures answer { refusal result ≡ first_cause (withdraw_causes (list_means C.Cost.algebra C.Cost.value self.old) from to) }
         ensures after { list_means C.Cost.algebra C.Cost.value self.new ≡ after (refusal result) (list_means C.Cost.algebra C.Cost.value self.old) (withdrawn (list_means C.Cost.algebra C.Cost.value self.old) from to) }

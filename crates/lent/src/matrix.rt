@@ -88,7 +88,8 @@ impl<'a, C: Cost> Register for Matrix<'a, C> {
         Ok(())
     }
 
-    // Also what happens to the lent memory, in clauses since they are promises to its lender: a granted call clears the pair's place, and nothing else is touched.
+    // Also what happens to the lent memory, in clauses since they are promises to its lender: a granted call clears the pair's
+    // place, and nothing else is touched.
     fn withdraw(&mut self, from: Format, to: Format) -> Result<(), RegisterFault>
         ensures answer { refusal result ≡ first_cause (withdraw_causes (matrix_means C.Cost.algebra C.Cost.value self.old) from to) }
         ensures after { matrix_means C.Cost.algebra C.Cost.value self.new ≡ after (refusal result) (matrix_means C.Cost.algebra C.Cost.value self.old) (withdrawn (matrix_means C.Cost.algebra C.Cost.value self.old) from to) }

@@ -119,8 +119,8 @@ pub fn write_answer(
     Ok(out.finish())
 }
 
-// Writes the text of an answer from the memory that is lent. A function of its own: within `answer_ticket`, whose structs hold `&mut`,
-// the checker does not cover a `&` through them.
+// Writes the text of an answer from the memory that is lent. A function of its own: within `answer_ticket`, whose structs hold
+// `&mut`, the checker does not cover a `&` through them.
 fn write_lent(
     place: &mut [u8],
     answer: &Result<Granted, Refusal>,

@@ -1,5 +1,6 @@
 // Registers: which converter cards stand, behind one trait. The layers above are proved over a register's meaning.
-// `judge_ends` and `judge_entry` are pub only for our own crates: a register of theirs judges its calls by them, and the bay its legs.
+// `judge_ends` and `judge_entry` are pub only for our own crates: a register of theirs judges its calls by them, and the bay
+// its legs.
 #![tactic(auto)]
 
 mod bar;
@@ -27,9 +28,9 @@ pub const MOST_FORMATS: usize = 64;
 // A format, by its number. A register has those below its size.
 pub type Format = usize;
 
-// The cards that stand. The two formats of a pair are two arguments of each of the four calls, by a rule of the project; a struct of
-// the two would be made for every call, only to be taken apart in it. `holds` is all that a register holds, and the contracts speak of it by what the costs in it
-// mean; how a register lays out its memory is its own affair.
+// The cards that stand. The two formats of a pair are two arguments of each of the four calls, by a rule of the project; a
+// struct of the two would be made for every call, only to be taken apart in it. `holds` is all that a register holds, and the
+// contracts speak of it by what the costs in it mean; how a register lays out its memory is its own affair.
 pub trait Register {
     type Cost: Cost;
 

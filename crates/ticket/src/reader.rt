@@ -29,8 +29,8 @@ pub enum State {
     Over,
 }
 
-// The reader changes in place, by a rule of the project, so each thing that it may know has a field: what its state does not speak of is
-// of no account. Its methods answer whether the sign fits, and no more: a false answer ends the reading.
+// The reader changes in place, by a rule of the project, so each thing that it may know has a field: what its state does not
+// speak of is of no account. Its methods answer whether the sign fits, and no more: a false answer ends the reading.
 #[derive(Drop)]
 pub struct Reader {
     stage: Stage,
@@ -197,8 +197,8 @@ impl Reader {
         true
     }
 
-    // Takes the next byte. False where no allowed line goes on with it. One match, since what may come depends on the state and on
-    // the sort of the sign together.
+    // Takes the next byte. False where no allowed line goes on with it. One match, since what may come depends on the state and
+    // on the sort of the sign together.
     fn take(&mut self, sign: u8) -> bool
         ensures { left result self.new ≡ after_byte (to_come self.old) sign }
     {
@@ -324,7 +324,8 @@ fn placed(line: Line, from: usize, end: usize) -> Read
     }
 }
 
-// Reads one line of the text, from a place on. The text comes whole with the place beside it, since a refusal tells a place of it.
+// Reads one line of the text, from a place on. The text comes whole with the place beside it, since a refusal tells a place of
+// it.
 pub fn read_line(text: &[u8], from: usize, stage: Stage) -> Result<Read, Unfit>
     ensures line { ReadLine stage text.now from result }
     ensures alone { Alone stage text.now from result }

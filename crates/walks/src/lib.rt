@@ -1,5 +1,6 @@
 // Walks over the cards of a register: what they cost, and which cost least.
-// `price` is for anybody. The cells, the search, the trace and the rows are pub only for our own crates, and ask something of their callers.
+// `price` is for anybody. The cells, the search, the trace and the rows are pub only for our own crates, and ask something of
+// their callers.
 #![tactic(auto)]
 
 mod cells;
