@@ -3,11 +3,8 @@ use Rattle.std.proofs.Common.{◌≡◌, subst, arith}
 use Rattle.walks.specs.Eliminated.{Block}
 use Rattle.walks.specs.Pivots.{Passed}
 use Rattle.walks.proofs.Passes.{block_down}
-use Rattle.walks.proofs.PivotSteps.{inside, passed_none, passed_then}
+use Rattle.walks.proofs.PivotSteps.{inside, passed_then}
 use Rattle.walks.proofs.eliminate.Pivot.pass.Goals as goal
-
-pub loop-s-init : goal.loop-s-init
-loop-s-init g c = passed_none _ _ (λ s t h. absurd (omega arith))
 
 pub pass_row-requires : goal.pass_row-requires
 pass_row-requires g c =

@@ -4,16 +4,13 @@ use Rattle.std.proofs.lemmas.Bool.{cases_lt}
 use Rattle.walks.specs.Eliminated.{Block}
 use Rattle.walks.specs.Pivots.{Passed}
 use Rattle.walks.proofs.Passes.{improved_as, block_right}
-use Rattle.walks.proofs.PivotSteps.{inside, passed_none, passed_then}
+use Rattle.walks.proofs.PivotSteps.{inside, passed_then}
 use Rattle.walks.proofs.eliminate.Pivot.pass_row.Goals as goal
 use Rattle.walks.proofs.eliminate.Pivot.pass_row.Goals.{then-t-s, else-t-s}
 
 -- the column that is passed over is the row's own
 lower : (s t a b : ℕ) → s ≤ a → a < s + 1 → b < t + 1 → (a ≡ b → ⊥) → t ≡ s → b < t
 lower s t a b l u v ne e = elim (cases_lt b t) [ inl d ↦ d | inr d ↦ absurd (ne (omega arith)) ]
-
-pub loop-t-init : goal.loop-t-init
-loop-t-init g c = passed_none _ _ (λ s t h. absurd (omega arith))
 
 pub improve-requires : goal.improve-requires
 improve-requires g c =

@@ -8,14 +8,11 @@ loop-to-init g c =
     let start = growing_start g.met.C.Cost.lawful g.C.Cost.value _ _ _ c.args.self.now.ready _ _ c.requires.long c.told-next c.requires.clear in
     rw (c.new-queue.ensures, c.tick.ensures.ticked) (start, omega arith, λ k l. absurd (omega arith), refl)
 
-pub scan-requires : goal.scan-requires
-scan-requires g c =
+pub scan-requires-clause-inside : goal.scan-requires-clause-inside
+scan-requires-clause-inside g c =
     let (growing, few, done, same) = c.loop-to.invariant in
     let (waits, to, on) = c.in-Some.ensures in
-    record {
-      inside = rw to (growing_at g.met.C.Cost.lawful g.C.Cost.value _ _ _ c.args.self.now.ready _ _ _ growing _ waits);
-      growing = rw on growing;
-    }
+    rw to (growing_at g.met.C.Cost.lawful g.C.Cost.value _ _ _ c.args.self.now.ready _ _ _ growing _ waits)
 
 pub loop-to-preserved : goal.loop-to-preserved
 loop-to-preserved g c =

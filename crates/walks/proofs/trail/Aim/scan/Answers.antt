@@ -1,4 +1,4 @@
-use Rattle.std.proofs.Common.{sym, ap, ◌∙◌, arith}
+use Rattle.std.proofs.Common.{sym, ap, ◌∙◌}
 use Rattle.std.proofs.lemmas.Bool.{both_ways}
 use Rattle.walks.proofs.Growth.{growing_room, turn_joins, turn_passes}
 use Rattle.walks.proofs.trail.Aim.scan.Goals as goal
@@ -31,8 +31,3 @@ loop-from-preserved g c =
         ap (λ t. t.sheet.ghost_name) w.ticks-is ∙ same,
       )
     ]
-
-pub returns : goal.returns
-returns g c =
-    let (turn, taken, same) = c.loop-from.invariant in
-    record { growing = turn.0; wider = turn.1; taken = taken; scanned = λ v l. turn.2 v (omega arith); same = same }
