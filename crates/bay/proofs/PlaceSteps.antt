@@ -8,7 +8,7 @@ use Rattle.costs.specs.Algebra.{Algebra}
 use Rattle.walks.specs.Sheet.{put_row, row_of}
 use Rattle.walks.proofs.Sheets.{length_put_row, length_row_of, row_at_put_row, row_at_put_row_other, get_or_put_row_above}
 use Rattle.bay.specs.Leg.{no_leg, noted}
-use Rattle.bay.specs.Lent.{SameLent}
+use Rattle.bay.specs.Lent.{SameLent, page_of}
 use Rattle.bay.specs.declared.writing.Page.{Page as LentPage}
 use Rattle.bay.specs.Places.{Blank, Done, EndsIn, Page, Room, Served, Spares, Written, page, place}
 use Rattle.bay.specs.Plain.{ends}
@@ -25,6 +25,10 @@ ends_at (leg ∷ legs) (suc k) = ends_at legs k
 -- memory that is kept twice in a row is kept
 pub lent_then : {C : Type 0} (p q r : LentPage C) → SameLent p q → SameLent q r → SameLent p r
 lent_then p q r a b = (b.0 ∙ a.0, b.1 ∙ a.1, b.2 ∙ a.2)
+
+-- a page that is lent has room
+pub lent_room : {C : Type 0} (p : LentPage C) → Room (page_of p)
+lent_room p = record { entries = p.entries; rows = p.rows }
 
 -- lists of one length that agree at a place do so at any default
 any_default : (xs ys : List ℕ) → length xs ≡ length ys → (j d : ℕ) → get_or xs j 0 ≡ get_or ys j 0 → get_or xs j d ≡ get_or ys j d
@@ -84,9 +88,6 @@ module _ {C : Type 0} (p q : Page C) (w : Written p q) where
 
   pub same_to : (k : ℕ) → (get_or q.legs k no_leg).to ≡ (get_or p.legs k no_leg).to
   same_to k = ap (λ e. e.to) (same_ends k)
-
-  pub written_room : Room p → Room q
-  written_room room = record { entries = omega (arith, room.entries, w.costs.long, same_number); rows = omega (arith, room.rows, w.chains.long, same_number) }
 
   pub written_then : (r : Page C) → Written q r → Written p r
   written_then r v = record {

@@ -6,9 +6,8 @@ ghost use Rattle.walks.specs.Tracing.{Clear, Traced};
 ghost use Rattle.walks.specs.Walk.{Gains, Least};
 ghost use Rattle.bay.specs.Leg.{no_leg, noted};
 ghost use Rattle.bay.specs.Legs.{booked};
-ghost use Rattle.bay.specs.Lent.{SameLent, page_of};
-ghost use Rattle.bay.specs.Places.{Awaits, Blank, LegDone, Room, Served, Spares, Written, page, place};
-ghost use Rattle.bay.specs.Plain.{ends};
+ghost use Rattle.bay.specs.Places.{Awaits, Blank, LegDone, Served, Spares, Written, place};
+ghost use Rattle.bay.specs.Plain.{ends, row_bytes};
 ghost use Rattle.bay.specs.Routes.{Routed, note_of};
 ghost use Rattle.bay.specs.Routing.{Beyond};
 
@@ -24,12 +23,16 @@ pub(crate) struct Page<'a, C> {
     pub(crate) legs: &'a mut Legs,
     pub(crate) costs: &'a mut [C],
     pub(crate) chains: &'a mut [u8],
+    // each leg has an entry and a row
+    ghost entries: { length (booked legs.now) ≤ length costs.now },
+    ghost rows: { row_bytes * length (booked legs.now) ≤ length chains.now },
 }
 
 impl<C: Cost> Page<'_, C> {
+    ghost use Rattle.bay.specs.Lent.{SameLent, page_of};
+
     // Every leg without a chain, at the cost that changes nothing.
     fn clear(&mut self)
-        requires { Room (page_of self.old) }
         ensures lent { SameLent self.old self.new }
         ensures written { Written (page_of self.old) (page_of self.new) }
         ensures blank { (k : ℕ) → k < length (booked self.new.legs.now) → Blank C.Cost.algebra C.Cost.value (place (page_of self.new) k) }
@@ -61,7 +64,6 @@ impl<C: Cost> Page<'_, C> {
         requires laid { Laid C.Cost.algebra C.Cost.value n table.now }
         requires few { n ≤ 64 }
         requires least { leg.from < n → Least C.Cost.algebra (cards_in C.Cost.algebra C.Cost.value n table.now) leg.from leg.to (least_in C.Cost.algebra C.Cost.value n table.now leg.from leg.to) }
-        requires room { Room (page_of self.old) }
         requires leg { (k < length (booked self.old.legs.now)) × (leg ≡ slice_index_or (booked self.old.legs.now) k no_leg) × (leg.to < n) }
         requires traced { leg.from < n → Traced C.Cost.algebra C.Cost.value n table.now leg.to next.now leg.from }
         requires blank { Blank C.Cost.algebra C.Cost.value (place (page_of self.old) k) }
@@ -85,7 +87,6 @@ impl<C: Cost> Page<'_, C> {
         requires few { n ≤ 64 }
         requires inside { goal < n }
         requires least { Each C.Cost.algebra C.Cost.value n table.now (λ s t. Least C.Cost.algebra (cards_in C.Cost.algebra C.Cost.value n table.now) s t) }
-        requires room { Room (page_of self.old) }
         requires traced { (v : ℕ) → v < n → (v ≢ goal) → Traced C.Cost.algebra C.Cost.value n table.now goal next.now v }
         requires awaits { Awaits C.Cost.algebra C.Cost.value goal (page_of self.old) }
         ensures lent { SameLent self.old self.new }
@@ -114,7 +115,6 @@ impl<C: Cost> Page<'_, C> {
         requires calm { Gains C.Cost.algebra (cards_in C.Cost.algebra C.Cost.value n table.now) → ⊥ }
         requires least { Each C.Cost.algebra C.Cost.value n table.now (λ s t. Least C.Cost.algebra (cards_in C.Cost.algebra C.Cost.value n table.now) s t) }
         requires clear { Clear ticks.old }
-        requires room { Room (page_of self.old) }
         ensures lent { SameLent self.old self.new }
         ensures routed { (d : C) → Routed C.Cost.algebra (cards_in C.Cost.algebra C.Cost.value n table.now) (map ends (booked self.old.legs.now)) (row_at self.new.chains.now) (λ k. C.Cost.value (slice_index_or self.new.costs.now k d)) }
         ensures chains { Beyond (66 * length (booked self.old.legs.now)) self.old.chains.now self.new.chains.now }

@@ -1,5 +1,6 @@
 use Rattle.std.proofs.Common.{sym, ap, ◌∙◌}
 use Rattle.bay.specs.Lent.{page_of}
+use Rattle.bay.proofs.PlaceSteps.{lent_room}
 use Rattle.bay.proofs.RouteSteps.{leg_outside, leg_none, leg_leads, leg_written}
 use Rattle.bay.proofs.writing.Page.write_leg.Goals as goal
 
@@ -22,4 +23,4 @@ pub returns-clause-done : goal.returns-clause-done
 returns-clause-done g c =
     leg_written g.met.C.Cost.lawful g.C.Cost.value c.args.n c.args.table.now c.requires.laid c.args.next.now
     (page_of c.args.self.now) c.args.k c.args.leg c.requires.leg.1 (c.requires.traced c.if-leg-n.false) c.requires.few c.in-Some.cost (sym c.in-Some.is ∙ ap (λ x. x.least) c.cell_at.ensures)
-    (c.requires.least c.if-leg-n.false) c.requires.leg.0 c.requires.room c.write_chain-count.result _ _ c.write_chain-count.ensures.written c.set_note.ensures
+    (c.requires.least c.if-leg-n.false) c.requires.leg.0 (lent_room c.args.self.now) c.write_chain-count.result _ _ c.write_chain-count.ensures.written c.set_note.ensures
