@@ -7,7 +7,8 @@ ghost use Rattle.bay.specs.Plain.{room_causes};
 use crate::fault::BayFault;
 use walks::ROW;
 
-// That there are legs, and that the table and the sheets are long enough for them, or the first cause why not.
+// That there are legs, and that the table and the sheets are long enough for them, or the first cause why not. Of numbers alone,
+// so that it knows no register.
 pub(crate) fn judge_room(
     legs: usize,
     size: usize,

@@ -25,7 +25,8 @@ pub trait Cost: Copy {
     fn join(self, other: Self) -> Self
         ensures { (m k : ℕ) → m + k ≤ reach → algebra.Within m (value self) → algebra.Within k (value other) → value result ≡ algebra.join (value self) (value other) };
 
-    // Whether `self` is strictly better than `other`.
+    // Whether `self` is strictly better than `other`. No `Ord`: which of two costs is better is the kind's own affair, as the larger
+    // depth is.
     fn undercuts(self, other: Self) -> bool
         ensures yes { result ≡ true → algebra.Under (value self) (value other) }
         ensures never { result ≡ false → algebra.Under (value self) (value other) → ⊥ };

@@ -55,7 +55,7 @@ fn number(word: Option<&str>) -> anyhow::Result<usize> {
         .map_err(|_| anyhow!("a format is a whole number"))
 }
 
-// The formats of a row, behind the byte that counts them.
+// The formats of a row, behind the byte that counts them. Cut here, since this program stands on the bay and knows no listing.
 fn formats(row: &[u8]) -> &[u8] {
     match row.split_first() {
         Some((count, bytes)) => bytes.get(..usize::from(*count)).unwrap_or(bytes),

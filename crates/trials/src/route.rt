@@ -61,7 +61,8 @@ impl<C: Kind> Sheets<C> {
     }
 }
 
-// The formats of a row, and what is behind them; none where the row is too short for its count.
+// The formats of a row, and what is behind them; none where the row is too short for its count. Cut here and not by the listing,
+// since the trials judge what was written.
 fn split_row(row: &[u8]) -> Option<(&[u8], &[u8])> {
     let (count, bytes) = row.split_first()?;
     bytes.split_at_checked(usize::from(*count))

@@ -92,7 +92,7 @@ impl Queue {
     }
 }
 
-// Whether two costs mean the same.
+// Whether two costs mean the same. A kind has no `==`: two costs may be held otherwise and mean the same.
 fn same<C: Cost>(one: C, other: C) -> bool
     ensures { Decides result (C.Cost.value one ≡ C.Cost.value other) }
 {
