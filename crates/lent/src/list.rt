@@ -187,6 +187,7 @@ impl<'a, C: Cost> Register for List<'a, C> {
         if !list_fits(self.n, self.entries.len()) {
             return Err(RegisterFault::Sealed);
         }
+        // Over `ok_or(..)?` the proof of this refusal did not close.
         let Some(i) = self.entry_to_write(from, to) else {
             return Err(RegisterFault::NoPlace);
         };

@@ -13,7 +13,7 @@ pub struct Bar<R> {
     bits: u64,
 }
 
-// Whether a format is barred.
+// Whether a format is barred. A format is a plain number for every caller, so what is asked of it stands in a clause.
 fn has_bar(bits: u64, format: Format) -> bool
     requires { format < 64 }
     ensures { result ≡ bars bits format }

@@ -30,7 +30,8 @@ pub enum State {
 }
 
 // The reader changes in place, by a rule of the project, so each thing that it may know has a field: what its state does not
-// speak of is of no account. Its methods answer whether the sign fits, and no more: a false answer ends the reading.
+// speak of is of no account. Its methods answer whether the sign fits, and no more: a false answer ends the reading. What may come
+// after the sign is the one clause of each, since that is what each is for.
 #[derive(Drop)]
 pub struct Reader {
     stage: Stage,

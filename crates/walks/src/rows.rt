@@ -40,6 +40,8 @@ fn frame(row: &mut [u8], count: usize)
     row[1 + count..].fill(NO_FORMAT);
 }
 
+// The three that write a row ask that it lies in the sheet, which is a plain slice for its holder.
+
 // Writes into row `k` of the sheet the chain met by following `next` from `from` to the goal. Answers how many formats it has.
 pub fn write_chain(
     next: &[usize; MOST_FORMATS],
