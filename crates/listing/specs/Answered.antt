@@ -1,9 +1,9 @@
 -- A ticket's text in, and the text of its answer out.
 use Rattle.std.specs.Prelude.{ℕ, List, Result}
-use Rattle.ticket_call.specs.Answers.{Memory, TicketAnswer}
+use Rattle.ticket.specs.Answers.{Memory, TicketAnswer}
 use Rattle.ticket_laws.specs.Whole.{WholeAnswer}
-use Rattle.ticket_call.specs.declared.fault.Refusal.{Refusal}
-use Rattle.ticket_call.specs.declared.serve.Granted.{Granted}
+use Rattle.ticket.specs.declared.fault.Refusal.{Refusal}
+use Rattle.ticket.specs.declared.serve.Granted.{Granted}
 use Rattle.listing.specs.declared.answer.PlaceShort.{PlaceShort}
 use Rattle.listing.specs.Output.{Printed}
 use Rattle.listing.specs.Text.{text_from}

@@ -9,12 +9,12 @@ use Rattle.registers.specs.declared.fault.Code.{Code}
 use Rattle.walks.specs.Sheet.{row_at}
 use Rattle.bay.specs.Routes.{no_ends}
 use Rattle.bay.specs.declared.legs.Ends.{Ends}
-use Rattle.ticket.specs.declared.line.Kind.{Kind}
-use Rattle.ticket.specs.declared.line.Kind.TheVariants as kind
-use Rattle.ticket_call.specs.Answers.{Memory}
-use Rattle.ticket_call.specs.Faults.{ticket_code}
-use Rattle.ticket_call.specs.declared.fault.Refusal.{Refusal}
-use Rattle.ticket_call.specs.declared.serve.Granted.{Granted}
+use Rattle.lines.specs.declared.line.Kind.{Kind}
+use Rattle.lines.specs.declared.line.Kind.TheVariants as kind
+use Rattle.ticket.specs.Answers.{Memory}
+use Rattle.ticket.specs.Faults.{ticket_code}
+use Rattle.ticket.specs.declared.fault.Refusal.{Refusal}
+use Rattle.ticket.specs.declared.serve.Granted.{Granted}
 
 -- texts one after the other
 abbrev pub pieces : List (List ℕ) → List ℕ

@@ -1,7 +1,7 @@
 // The text of an answer, whole.
 ghost use Rattle.std.specs.Prelude.{◌≡◌, ◌==◌, map, pos, slice_index_or};
-ghost use Rattle.ticket_call.specs.Answers.{of_memory, SameSheets, SameShared};
-ghost use Rattle.ticket_call.specs.Faults.{ticket_code};
+ghost use Rattle.ticket.specs.Answers.{of_memory, SameSheets, SameShared};
+ghost use Rattle.ticket.specs.Faults.{ticket_code};
 ghost use Rattle.listing.specs.Answered.{Answered};
 ghost use Rattle.listing.specs.Output.{Writes, Printed};
 ghost use Rattle.listing.specs.Text.{listing_text, loop_text, loop_number, refusal_text, answer_text, text_from};
@@ -10,8 +10,8 @@ use crate::output::Output;
 use crate::text::{put_code_line, put_codes, put_leg, row_formats};
 use bay::BayFault;
 use costs::{Cost, Delay, Depth};
-use ticket::Kind;
-use ticket_call::{
+use lines::Kind;
+use ticket::{
     Ends, FourCc, Granted, MOST_CODES, MOST_LEGS, Refusal, Shared, Sheets, TicketCost, TicketFault,
     route_ticket,
 };

@@ -6,7 +6,7 @@ ghost use Rattle.listing.specs.Text.{formats_of, code_text, codes_text, found_te
 
 use crate::output::Output;
 use registers::{Code, Layer};
-use ticket_call::{Ends, FourCc, MOST_CODES};
+use ticket::{Ends, FourCc, MOST_CODES};
 use walks::ROW;
 
 // The formats of row `k`, as many as its number says.

@@ -1,134 +1,82 @@
-// Routes legs over the house table. Standard input has a leg a line, as `4 2`; a line `bar 0` asks for the legs once more
-// with that format out of use.
+// Routes the ticket on standard input, and prints its answer.
 #![tactic(auto)]
 
-use anyhow::{Context, anyhow};
-use bay::{Answer, Bay, CHAIN_BYTES, Call, MOST_LEGS, Routes};
-use costs::Delay;
-use registers::{Bar, Code, HouseTable};
-use walks::{Cell, ROW};
+use anyhow::anyhow;
+use costs::{Delay, Depth};
+use lent::Entry;
+use listing::answer_ticket;
+use std::alloc::{AllocError, Global};
+use std::io;
+use std::io::{Read, Write};
+use ticket::{
+    CHAIN_BYTES, Ends, MOST_BYTES, MOST_CODES, MOST_LEGS, Shared, Sheets, TICKET_ENTRIES,
+};
+use walks::Cell;
 
-// What the input asks for: the formats that are barred, and the calls to make.
+// As many cells as a register of the most formats wants: each format has a code.
+const CELLS: usize = MOST_CODES * MOST_CODES;
+
+// More bytes than any answer has.
+const ANSWER_BYTES: usize = 65_536;
+
+// The memory for the tickets of one kind.
 #[derive(Drop)]
-struct Job {
-    bars: u64,
-    calls: Vec<Call<Delay>>,
+struct Memory<C> {
+    entries: Vec<Option<Entry<C>>>,
+    table: Vec<Cell<C>>,
+    costs: Vec<C>,
 }
 
-impl Job {
-    // The job that standard input has.
-    fn read(rt: &HostRuntime) -> anyhow::Result<Job> {
-        let mut job = Job {
-            bars: 0,
-            calls: Vec::new(rt.alloc()),
-        };
-        for line in rt.lines(rt.alloc()) {
-            job.add(line?.as_str())?;
-        }
-        job.calls.push(Call::Route)?;
-        Ok(job)
+impl<C: Copy> Memory<C> {
+    fn new(heap: Global, cost: C) -> Result<Memory<C>, AllocError> {
+        Ok(Memory {
+            entries: vec![in heap; None; TICKET_ENTRIES]?,
+            table: vec![in heap; Cell::empty(); CELLS]?,
+            costs: vec![in heap; cost; MOST_LEGS]?,
+        })
     }
 
-    // Adds what one line of the input asks for.
-    fn add(&mut self, line: &str) -> anyhow::Result<()> {
-        let mut words = line.split_whitespace();
-        match (words.next(), words.next()) {
-            (Some("bar"), word) => {
-                let format = number(word)?;
-                if format < 64 {
-                    self.bars |= 1 << format;
-                }
-            }
-            (from, to) => {
-                let from = number(from)?;
-                let to = number(to)?;
-                self.calls.push(Call::Book { from, to })?;
-            }
-        }
-        Ok(())
-    }
-}
-
-fn number(word: Option<&str>) -> anyhow::Result<usize> {
-    word.context("a line has two formats, or bar and a format")?
-        .parse()
-        .map_err(|_| anyhow!("a format is a whole number"))
-}
-
-// The formats of a row, behind the byte that counts them. Cut here, since this program stands on the bay and knows no listing.
-fn formats(row: &[u8]) -> &[u8] {
-    match row.split_first() {
-        Some((count, bytes)) => bytes.get(..usize::from(*count)).unwrap_or(bytes),
-        None => row,
-    }
-}
-
-// Formats and the end of the line, as ` 4 3 0 2`.
-fn print_formats(rt: &HostRuntime, formats: &[u8]) -> anyhow::Result<()> {
-    for format in formats {
-        print!(rt; " {format}")?;
-    }
-    println!(rt; "")?;
-    Ok(())
-}
-
-fn print_routes(rt: &HostRuntime, routes: &Routes<Delay>) -> anyhow::Result<()> {
-    for (k, (cost, row)) in routes
-        .costs
-        .iter()
-        .zip(routes.chains.chunks(ROW))
-        .enumerate()
-    {
-        let formats = formats(row);
-        if formats.is_empty() {
-            println!(rt; "leg {k}: none")?;
-        } else {
-            print!(rt; "leg {k}: {} by", cost.lines)?;
-            print_formats(rt, formats)?;
+    // The memory, lent.
+    fn sheets(&mut self) -> Sheets<'_, C> {
+        Sheets {
+            entries: self.entries.as_mut_slice(),
+            table: self.table.as_mut_slice(),
+            costs: self.costs.as_mut_slice(),
         }
     }
-    Ok(())
 }
 
-fn print_answer(rt: &HostRuntime, answer: &Answer<Delay>) -> anyhow::Result<()> {
-    match answer {
-        Answer::Routed(routes) => print_routes(rt, routes)?,
-        Answer::Looped(row) => {
-            print!(rt; "a loop gains time:")?;
-            print_formats(rt, formats(row))?;
-        }
-        Answer::Refused(fault) => {
-            let Code { number, part, .. } = fault.code();
-            println!(rt; "refused: {number}, part {part}")?;
-        }
-        _ => {}
-    }
-    Ok(())
+// What is on standard input, but no more of it than one byte over what a ticket may have.
+fn read_ticket(rt: &HostRuntime) -> io::Result<Vec<u8>> {
+    let mut text = Vec::new(rt.alloc());
+    rt.stdin()
+        .take(MOST_BYTES as u64 + 1)
+        .read_to_end(&mut text)?;
+    Ok(text)
 }
 
-// Makes the calls on a new bay over the house table under these bars, and prints what came of them.
-fn serve(rt: &HostRuntime, bars: u64, calls: &[Call<Delay>]) -> anyhow::Result<()> {
-    let mut bay = Bay::new(Bar::new(HouseTable, bars));
-    let mut table = [Cell::empty(); 64];
-    let mut costs = [Delay { lines: 0 }; MOST_LEGS];
-    let mut chains = [255; CHAIN_BYTES];
-    let answers = bay
-        .run(rt.alloc(), calls, &mut table, &mut costs, &mut chains)
-        .map_err(|_| anyhow!("there is no memory"))?;
-    answers
-        .iter()
-        .try_for_each(|answer| print_answer(rt, answer))
-}
-
-// The bare table, and where formats are barred the same legs once more under the bars.
 fn run(rt: &HostRuntime) -> anyhow::Result<()> {
-    let job = Job::read(rt)?;
-    println!(rt; "over the house table:")?;
-    serve(rt, 0, &job.calls)?;
-    if job.bars != 0 {
-        println!(rt; "under the bars:")?;
-        serve(rt, job.bars, &job.calls)?;
-    }
+    let text = read_ticket(rt)?;
+    let mut delay = Memory::new(rt.alloc(), Delay { lines: 0 })?;
+    let mut depth = Memory::new(rt.alloc(), Depth { bits: 0 })?;
+    let mut chains = [255; CHAIN_BYTES];
+    let mut codes = [[0; 4]; MOST_CODES];
+    let mut ends = [Ends { from: 0, to: 0 }; MOST_LEGS];
+    let mut place = vec![in rt.alloc(); 0; ANSWER_BYTES]?;
+    let length = answer_ticket(
+        text.as_slice(),
+        &mut delay.sheets(),
+        &mut depth.sheets(),
+        &mut Shared {
+            chains: &mut chains,
+            codes: &mut codes,
+            ends: &mut ends,
+        },
+        place.as_mut_slice(),
+    )
+    .map_err(|_| anyhow!("the answer is too long"))?;
+    place.truncate(length);
+    rt.stdout().write_all(place.as_slice())?;
     Ok(())
 }
 

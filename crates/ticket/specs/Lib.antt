@@ -1,3 +1,5 @@
-pub mod Signs
-pub mod Grammar
-pub mod Rests
+pub mod Faults
+pub mod Kinds
+pub mod Said
+pub mod Answers
+pub mod Steps

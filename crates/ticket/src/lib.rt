@@ -1,12 +1,14 @@
-// The ticket: its text, read line by line.
+// The ticket: any bytes are routed, or refused with the byte.
 #![tactic(auto)]
 
-mod line;
-mod numeral;
-mod reader;
-mod sort;
-mod words;
+mod fault;
+mod formats;
+mod kinds;
+mod orders;
+mod serve;
 
-pub use line::{Kind, Line, Read, Stage, Unfit};
-pub use reader::read_line;
-pub use words::same_bytes;
+pub use bay::{CHAIN_BYTES, Ends, MOST_LEGS};
+pub use fault::{Refusal, TicketFault};
+pub use formats::{FourCc, MOST_CODES};
+pub use kinds::TicketCost;
+pub use serve::{Granted, MOST_BYTES, Shared, Sheets, TICKET_ENTRIES, route_ticket};

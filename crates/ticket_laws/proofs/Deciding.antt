@@ -11,16 +11,16 @@ use Rattle.bay.specs.Routes.{Looped}
 use Rattle.bay.specs.Routing.{RouteAnswer}
 use Rattle.bay.specs.declared.fault.BayFault.{BayFault}
 use Rattle.bay.specs.declared.legs.Leg.{Leg}
-use Rattle.ticket.proofs.Places.{one_answer}
-use Rattle.ticket.specs.Grammar.{IsRead, IsRefused}
-use Rattle.ticket.specs.declared.line.Line.TheVariants.{End}
-use Rattle.ticket.specs.declared.line.Read.{Read}
-use Rattle.ticket.specs.declared.line.Stage.{Stage}
-use Rattle.ticket.specs.declared.line.Unfit.{Unfit}
-use Rattle.ticket_call.specs.Answers.{OfKind, Common, desk, Refused, Routed, LinesAnswer, BayRefused, BayPasses, KindAnswer}
-use Rattle.ticket_call.specs.Faults.{Told, told, told_by, at_byte}
-use Rattle.ticket_call.specs.Said.{Said, begins, due, adds, line_causes, Passes, More, Through, LineRefused}
-use Rattle.ticket_call.specs.declared.fault.Refusal.{Refusal}
+use Rattle.lines.proofs.Places.{one_answer}
+use Rattle.lines.specs.Grammar.{IsRead, IsRefused}
+use Rattle.lines.specs.declared.line.Line.TheVariants.{End}
+use Rattle.lines.specs.declared.line.Read.{Read}
+use Rattle.lines.specs.declared.line.Stage.{Stage}
+use Rattle.lines.specs.declared.line.Unfit.{Unfit}
+use Rattle.ticket.specs.Answers.{OfKind, Common, desk, Refused, Routed, LinesAnswer, BayRefused, BayPasses, KindAnswer}
+use Rattle.ticket.specs.Faults.{Told, told, told_by, at_byte}
+use Rattle.ticket.specs.Said.{Said, begins, due, adds, line_causes, Passes, More, Through, LineRefused}
+use Rattle.ticket.specs.declared.fault.Refusal.{Refusal}
 
 -- a place has one line, or none
 pub one_read : (stage : Stage) (text : List ℕ) (from : ℕ) (a b : Read) → IsRead stage text from a → IsRead stage text from b → a ≡ b

@@ -24,23 +24,23 @@ use Rattle.bay.specs.declared.legs.Ends.{Ends}
 use Rattle.bay.specs.declared.legs.Leg as booked
 use Rattle.lent.specs.Lent.{begun, size_fits}
 use Rattle.lent.specs.List.{or_else}
-use Rattle.ticket.specs.Grammar.{Allowed, IsRead, line_text}
-use Rattle.ticket.specs.declared.line.Kind.{Kind}
-use Rattle.ticket.specs.declared.line.Kind.TheVariants as kinds
-use Rattle.ticket.specs.declared.line.Line.{Line}
-use Rattle.ticket.specs.declared.line.Line.TheVariants.{Bay, Format, Card, Leg, End}
-use Rattle.ticket.specs.declared.line.Read.{Read}
-use Rattle.ticket.specs.declared.line.Stage.TheVariants.{Start, Formats, Cards, Legs}
-use Rattle.ticket_call.specs.Answers.{OfKind, Common, Memory, desk, LinesAnswer, KindAnswer, Judged, TicketAnswer, of_kind}
-use Rattle.ticket_call.specs.Faults.{told, at_byte}
-use Rattle.ticket_call.specs.Kinds.{delay_of, depth_of}
-use Rattle.ticket_call.specs.Said.{Said, said, begins, due, adds, each_at, line_causes, ticket_entries, More, Through, Completes}
+use Rattle.lines.specs.Grammar.{Allowed, IsRead, line_text}
+use Rattle.lines.specs.declared.line.Kind.{Kind}
+use Rattle.lines.specs.declared.line.Kind.TheVariants as kinds
+use Rattle.lines.specs.declared.line.Line.{Line}
+use Rattle.lines.specs.declared.line.Line.TheVariants.{Bay, Format, Card, Leg, End}
+use Rattle.lines.specs.declared.line.Read.{Read}
+use Rattle.lines.specs.declared.line.Stage.TheVariants.{Start, Formats, Cards, Legs}
+use Rattle.ticket.specs.Answers.{OfKind, Common, Memory, desk, LinesAnswer, KindAnswer, Judged, TicketAnswer, of_kind}
+use Rattle.ticket.specs.Faults.{told, at_byte}
+use Rattle.ticket.specs.Kinds.{delay_of, depth_of}
+use Rattle.ticket.specs.Said.{Said, said, begins, due, adds, each_at, line_causes, ticket_entries, More, Through, Completes}
 use Rattle.ticket_laws.specs.Whole.{CardSaid, card_line, leg_line, format_lines, last_cost, cards_said, Whole, WholeAnswer}
-use Rattle.ticket_call.specs.declared.fault.Refusal.{Refusal}
-use Rattle.ticket_call.specs.declared.serve.Granted as granted
-use Rattle.ticket_call.proofs.Passing.{formats_due}
-use Rattle.ticket_call.proofs.Serving.{bay_fits, nearest_is}
-use Rattle.ticket_call.proofs.Taking.{first_at, after_none, none_holds, orders_due}
+use Rattle.ticket.specs.declared.fault.Refusal.{Refusal}
+use Rattle.ticket.specs.declared.serve.Granted as granted
+use Rattle.ticket.proofs.Passing.{formats_due}
+use Rattle.ticket.proofs.Serving.{bay_fits, nearest_is}
+use Rattle.ticket.proofs.Taking.{first_at, after_none, none_holds, orders_due}
 
 abbrev line_of : Read → Line
 line_of r = r.line

@@ -1,9 +1,9 @@
 -- No text has two answers: what a ticket is told follows from its bytes and from how long the memory is that is handed in.
 use Rattle.std.specs.Prelude.{◌≡◌, ℕ, List, Ok, Err, Result}
-use Rattle.ticket_call.specs.Answers.{Memory, TicketAnswer}
-use Rattle.ticket_call.specs.Faults.{Told, told_by}
-use Rattle.ticket_call.specs.declared.fault.Refusal.{Refusal}
-use Rattle.ticket_call.specs.declared.serve.Granted.{Granted}
+use Rattle.ticket.specs.Answers.{Memory, TicketAnswer}
+use Rattle.ticket.specs.Faults.{Told, told_by}
+use Rattle.ticket.specs.declared.fault.Refusal.{Refusal}
+use Rattle.ticket.specs.declared.serve.Granted.{Granted}
 
 -- what a ticket is told: its kind, size and number of legs, or a code and a byte
 abbrev pub Verdict : Type 0

@@ -10,15 +10,15 @@ use Rattle.walks.specs.Sheet.{row_at}
 use Rattle.walks.specs.Walk.{Gains}
 use Rattle.bay.specs.Routes.{Routed}
 use Rattle.bay.specs.declared.legs.Ends.{Ends}
-use Rattle.ticket.specs.Grammar.{line_text}
-use Rattle.ticket.specs.declared.line.Kind.{Kind}
-use Rattle.ticket.specs.declared.line.Kind.TheVariants as kind
-use Rattle.ticket.specs.declared.line.Line.{Line}
-use Rattle.ticket.specs.declared.line.Line.TheVariants.{Bay, Format, Card, Leg, End}
-use Rattle.ticket_call.specs.Answers.{Memory, TicketAnswer}
-use Rattle.ticket_call.specs.Kinds.{delay_of, depth_of}
-use Rattle.ticket_call.specs.declared.fault.Refusal.{Refusal}
-use Rattle.ticket_call.specs.declared.serve.Granted.{Granted}
+use Rattle.lines.specs.Grammar.{line_text}
+use Rattle.lines.specs.declared.line.Kind.{Kind}
+use Rattle.lines.specs.declared.line.Kind.TheVariants as kind
+use Rattle.lines.specs.declared.line.Line.{Line}
+use Rattle.lines.specs.declared.line.Line.TheVariants.{Bay, Format, Card, Leg, End}
+use Rattle.ticket.specs.Answers.{Memory, TicketAnswer}
+use Rattle.ticket.specs.Kinds.{delay_of, depth_of}
+use Rattle.ticket.specs.declared.fault.Refusal.{Refusal}
+use Rattle.ticket.specs.declared.serve.Granted.{Granted}
 
 -- what a card line says
 pub record CardSaid : Type 0 where

@@ -1,7 +1,7 @@
 // The cost kinds as plain numbers, so that one text serves for both.
 use crate::dice::Dice;
 use costs::{Delay, Depth};
-use ticket_call::TicketCost;
+use ticket::TicketCost;
 
 pub trait Kind: TicketCost {
     // What two numbers along a walk come to.

@@ -12,16 +12,16 @@ use Rattle.bay.specs.Routing.{RouteAnswer}
 use Rattle.bay.specs.declared.fault.BayFault.{BayFault}
 use Rattle.bay.specs.declared.legs.Ends.{Ends}
 use Rattle.bay.specs.declared.legs.Leg.{Leg}
-use Rattle.ticket.specs.declared.line.Kind.TheVariants as kind
-use Rattle.ticket.specs.declared.line.Line.{Line}
-use Rattle.ticket.specs.declared.line.Line.TheVariants.{Bay}
-use Rattle.ticket.specs.declared.line.Stage.TheVariants.{Start}
-use Rattle.ticket_call.specs.Answers.{Memory, desk, TicketAnswer, HasBay, Judged, KindAnswer, LinesAnswer, of_kind}
-use Rattle.ticket_call.specs.Faults.{told_by, at_byte}
-use Rattle.ticket_call.specs.Kinds.{delay_of}
-use Rattle.ticket_call.specs.Said.{begins, in_front, Passes}
-use Rattle.ticket_call.specs.declared.fault.Refusal.{Refusal}
-use Rattle.ticket_call.specs.declared.serve.Granted.{Granted}
+use Rattle.lines.specs.declared.line.Kind.TheVariants as kind
+use Rattle.lines.specs.declared.line.Line.{Line}
+use Rattle.lines.specs.declared.line.Line.TheVariants.{Bay}
+use Rattle.lines.specs.declared.line.Stage.TheVariants.{Start}
+use Rattle.ticket.specs.Answers.{Memory, desk, TicketAnswer, HasBay, Judged, KindAnswer, LinesAnswer, of_kind}
+use Rattle.ticket.specs.Faults.{told_by, at_byte}
+use Rattle.ticket.specs.Kinds.{delay_of}
+use Rattle.ticket.specs.Said.{begins, in_front, Passes}
+use Rattle.ticket.specs.declared.fault.Refusal.{Refusal}
+use Rattle.ticket.specs.declared.serve.Granted.{Granted}
 use Rattle.ticket_laws.proofs.Deciding.{one_read, not_both, one_way, refused_not_passed, none≢some, looped_gains}
 use Rattle.listing.specs.Output.{Printed}
 use Rattle.listing.specs.Text.{listing_text, leg_text, formats_of, text_from, pieces}

@@ -3,14 +3,14 @@ use Rattle.std.proofs.Common.{ℕ, List, [], ◌∷◌, ℤ, pos, negsuc, codes,
 use Rattle.std.specs.Fmt.{digits}
 use Rattle.costs.specs.Delay.{delay}
 use Rattle.costs.specs.declared.delay.Delay.{Delay}
-use Rattle.ticket.specs.Grammar.{IsRead}
-use Rattle.ticket.specs.declared.line.Kind.TheVariants as kind
-use Rattle.ticket.specs.declared.line.Line.{Line}
-use Rattle.ticket.specs.declared.line.Line.TheVariants.{Bay, Format, Card, Leg, End}
-use Rattle.ticket.specs.declared.line.Read.{Read}
-use Rattle.ticket.specs.declared.line.Stage.TheVariants.{Start}
-use Rattle.ticket_call.specs.Kinds.{delay_of}
-use Rattle.ticket_call.specs.Said.{Said, begins, adds, Completes}
+use Rattle.lines.specs.Grammar.{IsRead}
+use Rattle.lines.specs.declared.line.Kind.TheVariants as kind
+use Rattle.lines.specs.declared.line.Line.{Line}
+use Rattle.lines.specs.declared.line.Line.TheVariants.{Bay, Format, Card, Leg, End}
+use Rattle.lines.specs.declared.line.Read.{Read}
+use Rattle.lines.specs.declared.line.Stage.TheVariants.{Start}
+use Rattle.ticket.specs.Kinds.{delay_of}
+use Rattle.ticket.specs.Said.{Said, begins, adds, Completes}
 use Rattle.worked.specs.Sample.{sample_ticket}
 
 abbrev read : Line → ℕ → ℕ → ℕ → Read

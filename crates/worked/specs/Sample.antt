@@ -1,6 +1,6 @@
 -- The sample ticket: its text, and the text of its answer.
 use Rattle.std.specs.Prelude.{◌≡◌, ℕ, ◌≤◌, List, [], ◌∷◌, ◌++◌, length, drop, Ok, codes, Result}
-use Rattle.ticket_call.specs.Answers.{Memory}
+use Rattle.ticket.specs.Answers.{Memory}
 use Rattle.listing.specs.Answered.{Answered}
 use Rattle.listing.specs.Text.{pieces}
 use Rattle.listing.specs.declared.answer.PlaceShort.{PlaceShort}

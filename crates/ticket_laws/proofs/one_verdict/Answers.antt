@@ -2,17 +2,17 @@
 use Rattle.std.proofs.Common.{◌≡◌, ℕ, List, Ok, Err, Result, sym, refl, ap, ◌∙◌, subst, inl, inr, arith}
 use Rattle.costs.specs.Delay.{delay}
 use Rattle.costs.specs.Depth.{depth, bits}
-use Rattle.ticket.specs.declared.line.Kind.{Kind}
-use Rattle.ticket.specs.declared.line.Kind.TheVariants.{Delay, Depth}
-use Rattle.ticket.specs.declared.line.Line.{Line}
-use Rattle.ticket.specs.declared.line.Line.TheVariants.{Bay}
-use Rattle.ticket.specs.declared.line.Stage.TheVariants.{Start}
-use Rattle.ticket_call.specs.Answers.{Memory, TicketAnswer, HasBay, Judged, of_kind}
-use Rattle.ticket_call.specs.Faults.{Told}
-use Rattle.ticket_call.specs.Kinds.{delay_of, depth_of}
+use Rattle.lines.specs.declared.line.Kind.{Kind}
+use Rattle.lines.specs.declared.line.Kind.TheVariants.{Delay, Depth}
+use Rattle.lines.specs.declared.line.Line.{Line}
+use Rattle.lines.specs.declared.line.Line.TheVariants.{Bay}
+use Rattle.lines.specs.declared.line.Stage.TheVariants.{Start}
+use Rattle.ticket.specs.Answers.{Memory, TicketAnswer, HasBay, Judged, of_kind}
+use Rattle.ticket.specs.Faults.{Told}
+use Rattle.ticket.specs.Kinds.{delay_of, depth_of}
 use Rattle.ticket_laws.specs.Verdict.{Verdict, verdict}
-use Rattle.ticket_call.specs.declared.fault.Refusal.{Refusal}
-use Rattle.ticket_call.specs.declared.serve.Granted.{Granted}
+use Rattle.ticket.specs.declared.fault.Refusal.{Refusal}
+use Rattle.ticket.specs.declared.serve.Granted.{Granted}
 use Rattle.ticket_laws.proofs.Deciding.{one_read, one_byte, not_both, tells, one_of_kind}
 use Rattle.ticket_laws.proofs.one_verdict.Goals as goal
 

@@ -1,6 +1,6 @@
 use Rattle.std.proofs.Common.{◌==◌, [], sym, ap, ◌∙◌}
 use Rattle.std.proofs.lemmas.Bool.{cond-true}
-use Rattle.ticket_call.specs.Faults.{ticket_code}
+use Rattle.ticket.specs.Faults.{ticket_code}
 use Rattle.listing.specs.Text.{code_line, loop_text, formats_of, loop_number}
 use Rattle.listing.proofs.Writing.{writes_both, writes_is}
 use Rattle.listing.proofs.answer.put_refusal.Goals as goal

@@ -1,0 +1,12 @@
+// The ticket: its text, read line by line.
+#![tactic(auto)]
+
+mod line;
+mod numeral;
+mod reader;
+mod sort;
+mod words;
+
+pub use line::{Kind, Line, Read, Stage, Unfit};
+pub use reader::read_line;
+pub use words::same_bytes;

@@ -1,0 +1,345 @@
+// The line reader: it takes the bytes of a line one by one, and knows at each what may still come.
+ghost use Rattle.std.specs.Prelude.{◌≡◌, ◌+◌, true, false, ◌||◌, length, None, if◌then◌else◌};
+ghost use Rattle.lines.specs.Signs.{digit, letter};
+ghost use Rattle.lines.specs.declared.reader.State.TheVariants.{InWord, InKind, PairEnd, InCode, Ending};
+ghost use Rattle.lines.specs.Grammar.{line_text, Coded, number_begins, code_begins, ReadLine, Alone};
+ghost use Rattle.lines.specs.Rests.{line_rest, to_come, left, after_byte, takes_letter, with_letter};
+
+use crate::line::{Kind, Line, Read, Stage, Unfit};
+use crate::numeral::Numeral;
+use crate::sort::{Sort, sort_of};
+use crate::words::{Word, word_by};
+
+// What is being read. In a word or a code, `at` says how far.
+#[derive(Clone, Copy, Debug, PartialEq, Eq)]
+pub enum State {
+    Opening,
+    First,
+    InWord,
+    InKind,
+    Pair,
+    Size,
+    Number,
+    From,
+    To,
+    PairEnd,
+    Cost,
+    InCode,
+    Ending,
+    Over,
+}
+
+// The reader changes in place, by a rule of the project, so each thing that it may know has a field: what its state does not
+// speak of is of no account. Its methods answer whether the sign fits, and no more: a false answer ends the reading. What may come
+// after the sign is the one clause of each, since that is what each is for.
+#[derive(Drop)]
+pub struct Reader {
+    stage: Stage,
+    state: State,
+    word: Word,
+    kind: Kind,
+    at: usize,
+    // the number that is read, and the numbers before it
+    numeral: Numeral,
+    first: u32,
+    second: u32,
+    code: [u8; 4],
+    line: Line,
+}
+
+impl Reader {
+    // Before the first byte.
+    fn new(stage: Stage) -> Reader
+        ensures { to_come result ≡ line_rest stage }
+    {
+        Reader {
+            stage,
+            state: State::Opening,
+            word: Word::End,
+            kind: Kind::Delay,
+            at: 0,
+            numeral: Numeral::new(),
+            first: 0,
+            second: 0,
+            code: [0; 4],
+            line: Line::End,
+        }
+    }
+
+    // Before the first digit of a number.
+    fn begin(&mut self, state: State)
+        ensures exit { self.new ≡ record self.old { state = state; numeral = self.new.numeral } }
+        ensures minus { self.new.numeral.minus ≡ false }
+        ensures value { self.new.numeral.value ≡ None }
+    {
+        self.state = state;
+        self.numeral = Numeral::new();
+    }
+
+    // After the last sign of a line.
+    fn finish(&mut self, line: Line)
+        ensures { self.new ≡ record self.old { line = line; state = Ending } }
+    {
+        self.line = line;
+        self.state = State::Ending;
+    }
+
+    // One more letter of these.
+    fn letter(&mut self, letters: &[u8], sign: u8) -> bool
+        ensures fits { result ≡ takes_letter letters.now self.old.at sign }
+        ensures exit { self.new ≡ (if result then with_letter self.old else self.old) }
+    {
+        if letters.get(self.at) == Some(&sign) {
+            self.at += 1;
+            return true;
+        }
+        false
+    }
+
+    // The space after a word.
+    fn leave_word(&mut self) -> bool
+        requires { self.old.state ≡ InWord }
+        ensures { left result self.new ≡ after_byte (to_come self.old) 32 }
+    {
+        if self.at < self.word.letters().len() {
+            return false;
+        }
+        // Each kind has its arm: one for both would need a second match, on the kind.
+        match self.word {
+            Word::Bay => {
+                self.at = 0;
+                self.state = State::InKind;
+            }
+            Word::Delay => {
+                self.kind = Kind::Delay;
+                self.begin(State::Size);
+            }
+            Word::Depth => {
+                self.kind = Kind::Depth;
+                self.begin(State::Size);
+            }
+            Word::Format => self.begin(State::Number),
+            Word::Card | Word::Leg => self.state = State::Pair,
+            Word::End => return false,
+        }
+        true
+    }
+
+    // The closing sign after a word.
+    fn close_word(&mut self) -> bool
+        requires { self.old.state ≡ InWord }
+        ensures { left result self.new ≡ after_byte (to_come self.old) 41 }
+    {
+        if self.at < self.word.letters().len() {
+            return false;
+        }
+        // A match: over `self.word != Word::End` the proof did not close.
+        match self.word {
+            Word::End => {
+                self.finish(Line::End);
+                true
+            }
+            _ => false,
+        }
+    }
+
+    // One more letter of a kind. The kinds differ in their third.
+    fn kind_letter(&mut self, sign: u8) -> bool
+        requires at { self.old.state ≡ InKind }
+        requires letter { letter sign ≡ true }
+        ensures { left result self.new ≡ after_byte (to_come self.old) sign }
+    {
+        if self.at < 2 {
+            return self.letter(b"de", sign);
+        }
+        self.word = match sign {
+            b'l' => Word::Delay,
+            b'p' => Word::Depth,
+            _ => return false,
+        };
+        self.at = 3;
+        self.state = State::InWord;
+        true
+    }
+
+    // The sign after a pair: a leg is at its end, and a card goes on to its cost.
+    fn leave_pair(&mut self, sign: u8) -> bool
+        requires at { self.old.state ≡ PairEnd }
+        ensures { left result self.new ≡ after_byte (to_come self.old) sign }
+    {
+        match (self.word, sign) {
+            (Word::Leg, b')') => {
+                self.finish(Line::Leg {
+                    from: self.first as usize,
+                    to: self.second as usize,
+                });
+                true
+            }
+            (Word::Leg, _) => false,
+            (_, b' ') => {
+                self.begin(State::Cost);
+                true
+            }
+            _ => false,
+        }
+    }
+
+    // One more sign of a code.
+    fn code_sign(&mut self, sign: u8) -> bool
+        requires at { self.old.state ≡ InCode }
+        requires fits { (letter sign || digit sign) ≡ true }
+        ensures { left result self.new ≡ after_byte (to_come self.old) sign }
+    {
+        if self.at >= 4 {
+            return false;
+        }
+        self.code[self.at] = sign;
+        self.at += 1;
+        true
+    }
+
+    // Takes the next byte. False where no allowed line goes on with it. One match, since what may come depends on the state and
+    // on the sort of the sign together.
+    fn take(&mut self, sign: u8) -> bool
+        ensures { left result self.new ≡ after_byte (to_come self.old) sign }
+    {
+        match (self.state, sort_of(sign as char)) {
+            (State::Opening, Sort::Open) => {
+                self.state = State::First;
+                true
+            }
+            (State::First, Sort::Letter) => {
+                let Some(word) = word_by(self.stage, sign) else {
+                    return false;
+                };
+                self.word = word;
+                self.at = 1;
+                self.state = State::InWord;
+                true
+            }
+            (State::InWord, Sort::Letter) => self.letter(self.word.letters(), sign),
+            (State::InWord, Sort::Space) => self.leave_word(),
+            (State::InWord, Sort::Close) => self.close_word(),
+            (State::InKind, Sort::Letter) => self.kind_letter(sign),
+            (State::Pair, Sort::Open) => {
+                self.begin(State::From);
+                true
+            }
+            (State::Size | State::Number | State::From | State::To, Sort::Digit) => {
+                self.numeral.digit(sign)
+            }
+            (State::Size, Sort::Close) => {
+                let Some(size) = self.numeral.value else {
+                    return false;
+                };
+                self.finish(Line::Bay {
+                    kind: self.kind,
+                    size: size as usize,
+                });
+                true
+            }
+            (State::Number, Sort::Space) => {
+                let Some(number) = self.numeral.value else {
+                    return false;
+                };
+                self.first = number;
+                self.at = 0;
+                self.state = State::InCode;
+                true
+            }
+            (State::From, Sort::Space) => {
+                let Some(from) = self.numeral.value else {
+                    return false;
+                };
+                self.first = from;
+                self.begin(State::To);
+                true
+            }
+            (State::To, Sort::Close) => {
+                let Some(to) = self.numeral.value else {
+                    return false;
+                };
+                self.second = to;
+                self.state = State::PairEnd;
+                true
+            }
+            (State::PairEnd, Sort::Space | Sort::Close) => self.leave_pair(sign),
+            (State::Cost, Sort::Minus) if self.numeral.value.is_none() && !self.numeral.minus => {
+                self.numeral.minus = true;
+                true
+            }
+            (State::Cost, Sort::Digit)
+                if self.numeral.value.is_some() || !self.numeral.minus || sign != b'0' => {
+                self.numeral.digit(sign)
+            }
+            (State::Cost, Sort::Close) => {
+                let Some(size) = self.numeral.value else {
+                    return false;
+                };
+                let size = size as i32;
+                self.finish(Line::Card {
+                    from: self.first as usize,
+                    to: self.second as usize,
+                    cost: if self.numeral.minus { -size } else { size },
+                });
+                true
+            }
+            (State::InCode, Sort::Letter | Sort::Digit) => self.code_sign(sign),
+            (State::InCode, Sort::Close) if self.at >= 4 => {
+                self.finish(Line::Format {
+                    number: self.first as usize,
+                    code: self.code,
+                });
+                true
+            }
+            (State::Ending, Sort::LineEnd) => {
+                self.state = State::Over;
+                true
+            }
+            _ => false,
+        }
+    }
+}
+
+// The line that was read, with its places.
+fn placed(line: Line, from: usize, end: usize) -> Read
+    requires coded { Coded line }
+    requires whole { end ≡ from + length (line_text line) }
+    ensures line { result.line ≡ line }
+    ensures end { result.end ≡ end }
+    ensures number { result.number_place ≡ number_begins from line }
+    ensures code { result.code_place ≡ code_begins from line }
+{
+    let (number_place, code_place) = match line {
+        Line::Bay { .. } => (from + 11, end),
+        Line::Format { .. } => (from + 8, end - 6),
+        Line::Card { .. } => (from + 7, end),
+        Line::Leg { .. } => (from + 6, end),
+        Line::End => (end, end),
+    };
+    Read {
+        line,
+        end,
+        number_place,
+        code_place,
+    }
+}
+
+// Reads one line of the text, from a place on. The text comes whole with the place beside it, since a refusal tells a place of
+// it.
+pub fn read_line(text: &[u8], from: usize, stage: Stage) -> Result<Read, Unfit>
+    ensures line { ReadLine stage text.now from result }
+    ensures alone { Alone stage text.now from result }
+{
+    let mut reader = Reader::new(stage);
+    // By index: reading takes a quarter longer over `text.iter().enumerate().skip(from)`.
+    for place in from..text.len() {
+        if !reader.take(text[place]) {
+            return Err(Unfit { byte: place });
+        }
+        if let State::Over = reader.state {
+            return Ok(placed(reader.line, from, place + 1));
+        }
+    }
+    Err(Unfit { byte: text.len() })
+}

@@ -1,7 +1,0 @@
--- A space stands after every word but `end`.
-use Rattle.std.proofs.Common.{refl}
-use Rattle.ticket.proofs.Steps.{word_refuses}
-use Rattle.ticket.proofs.reader.Reader.leave_word.Goals as goal
-
-pub returns-then-self-letters : goal.returns-then-self-letters
-returns-then-self-letters c = word_refuses c.args.self.now _ 32 c.requires c.letters.ensures c.if-self-letters.true refl

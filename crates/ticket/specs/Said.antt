@@ -1,0 +1,131 @@
+-- What the lines of a ticket say one after the other, and why a line is refused.
+use Rattle.std.specs.Prelude.{◌≡◌, ℕ, ◌+◌, Bool, true, false, cond, not, ◌&&◌, ◌||◌, ◌⊎◌, List, [], ◌∷◌, ◌++◌, length, drop, ℤ, Some, None, ◌==◌, nat_lt}
+use Rattle.costs.specs.Algebra.{Algebra}
+use Rattle.registers.specs.Fault.{code, first_cause}
+use Rattle.registers.specs.Meaning.{enter_causes}
+use Rattle.registers.specs.declared.fault.Code.{Code}
+use Rattle.registers.specs.declared.fault.Layer.TheVariants.{Ticket, Register}
+use Rattle.lent.specs.Lent.{size_fits, begun}
+use Rattle.bay.specs.Plain.{Plain, book_causes, step}
+use Rattle.bay.specs.declared.calls.Call.TheVariants.{Enter, Book}
+use Rattle.lines.specs.Grammar.{line_text, number_begins, code_begins, IsRead, IsRefused}
+use Rattle.lines.specs.declared.line.Line.{Line}
+use Rattle.lines.specs.declared.line.Line.TheVariants.{Bay, Format, Card, Leg, End}
+use Rattle.lines.specs.declared.line.Read.{Read}
+use Rattle.lines.specs.declared.line.Stage.{Stage}
+use Rattle.lines.specs.declared.line.Stage.TheVariants.{Formats, Cards, Legs}
+use Rattle.ticket.specs.Faults.{Told, told}
+
+-- the cards of a ticket lie in so many entries of the memory that is handed in
+abbrev pub ticket_entries : ℕ
+ticket_entries = 512
+
+-- a list in the front of a place, and the rest of it as it was
+abbrev pub in_front : {X : Type 0} → List X → List X → List X
+in_front new old = new ++ drop (length new) old
+
+-- the causes of a call, each told at the byte
+abbrev pub each_at : ℕ → List (Bool × Code) → List (Bool × Told)
+each_at byte [] = []
+each_at byte (cause ∷ causes) = (cause.0, told byte cause.1) ∷ each_at byte causes
+
+-- two codes are equal when all their bytes are
+abbrev pub same_code : List ℕ → List ℕ → Bool
+same_code [] [] = true
+same_code [] (b ∷ ds) = false
+same_code (a ∷ cs) [] = false
+same_code (a ∷ cs) (b ∷ ds) = a == b && same_code cs ds
+
+-- one of the codes is equal to this one
+abbrev pub used : List (List ℕ) → List ℕ → Bool
+used [] code = false
+used (c ∷ cs) code = same_code c code || used cs code
+
+-- why a bay line for n formats is refused, in order: a size that no register has, and too few entries
+abbrev pub bay_causes : ℕ → ℕ → List (Bool × Told)
+bay_causes n entries = (not (size_fits n), told 11 (code Ticket 3 0)) ∷ (nat_lt entries ticket_entries, told 0 (code Register 16 1)) ∷ []
+
+-- why a format line at `from` is refused, in order: it has not the number due, and its code was used
+abbrev pub format_causes : List (List ℕ) → ℕ → ℕ → List ℕ → List (Bool × Told)
+format_causes codes from k fourcc =
+    (not (k == length codes), told (number_begins from (Format k fourcc)) (code Ticket 3 0)) ∷ (used codes fourcc, told (code_begins from (Format k fourcc)) (code Ticket 4 0)) ∷ []
+
+-- why an end line at `from` is refused before its route: something follows it
+abbrev pub end_causes : ℕ → ℕ → List (Bool × Told)
+end_causes total from = (nat_lt (from + length (line_text End)) total, told (from + length (line_text End)) (code Ticket 2 0)) ∷ []
+
+-- What the lines so far have said: the codes of the first formats, and the plain bay that their calls have made.
+pub record Said (V : Type 0) : Type 0 where
+  pub codes : List (List ℕ)
+  pub plain : Plain V
+
+module _ {V : Type 0} where
+  abbrev pub said : List (List ℕ) → Plain V → Said V
+  said codes p = record { codes = codes; plain = p }
+
+  -- after the bay line: no codes, and a bay of n formats without cards or legs
+  abbrev pub begins : ℕ → Said V
+  begins n = said [] (record { register = begun n true ticket_entries; legs = [] })
+
+  -- what may come next: formats until each has its code, then cards, and no more cards once there is a leg
+  abbrev pub due : Said V → Stage
+  due s = cond (nat_lt (length s.codes) s.plain.register.size) Formats (cond (length s.plain.legs == 0) Cards Legs)
+
+-- a line that others may follow
+abbrev pub More : Line → Type 0
+More (Bay kind n) = Unit {0}
+More (Format k code) = Unit {0}
+More (Card a b cost) = Unit {0}
+More (Leg a b) = Unit {0}
+More End = ⊥
+
+-- `cost_of` is the cost that a card line's number stands for
+module _ (A : Algebra) {C : Type 0} (value : C → A.Value) (cost_of : ℤ → C) where
+  -- why a line at `from` of a text of `total` bytes is refused, once it is read; a card is entered, and a leg is booked
+  abbrev pub line_causes : Said A.Value → ℕ → ℕ → Line → List (Bool × Told)
+  line_causes s total from (Bay kind n) = []
+  line_causes s total from (Format k code) = format_causes s.codes from k code
+  line_causes s total from (Card a b cost) = each_at from (enter_causes s.plain.register a b (A.admits (value (cost_of cost))))
+  line_causes s total from (Leg a b) = each_at from (book_causes s.plain a b)
+  line_causes s total from End = end_causes total from
+
+  -- what a line adds that is not refused
+  abbrev pub adds : Said A.Value → Line → Said A.Value
+  adds s (Bay kind n) = s
+  adds s (Format k code) = said (s.codes ++ code ∷ []) s.plain
+  adds s (Card a b cost) = said s.codes (step A value s.plain (Enter a b (cost_of cost)))
+  adds s (Leg a b) = said s.codes (step A value s.plain (Book a b))
+  adds s End = s
+
+  module _ (text : List ℕ) where
+    -- the line is read at `from`, and no cause holds against it
+    pub record Passes (s : Said A.Value) (from : ℕ) (read : Read) : Type 0 where
+      pub is_read : IsRead (due s) text from read
+      pub no_cause : first_cause (line_causes s (length text) from read.line) ≡ None
+
+    -- the lines stand in the text one after the other from `from` to `place`, all of them pass, and then so much is said
+    abbrev pub Through : Said A.Value → ℕ → List Read → ℕ → Said A.Value → Type 0
+    Through s from [] place s' = (from ≡ place) × (s ≡ s')
+    Through s from (read ∷ reads) place s' = Passes s from read × More read.line × Through (adds s read.line) read.end reads place s'
+
+    -- the line at `from` is refused: no allowed line stands there, or a cause holds against the one that does
+    abbrev pub LineRefused : Said A.Value → ℕ → Told → Type 0
+    LineRefused s from t =
+        (IsRefused (due s) text from t.byte × (t.code ≡ code Ticket 2 0)) ⊎
+        ((read : Read) × IsRead (due s) text from read × (first_cause (line_causes s (length text) from read.line) ≡ Some t))
+
+    -- some lines pass, and the next is refused
+    pub record Stops (s : Said A.Value) (from : ℕ) (t : Told) : Type 0 where
+      pub lines : List Read
+      pub place : ℕ
+      pub then : Said A.Value
+      pub through : Through s from lines place then
+      pub refused : LineRefused then place t
+
+    -- some lines pass, and then the end line, with nothing after it
+    pub record Completes (s : Said A.Value) (from place : ℕ) (then : Said A.Value) : Type 0 where
+      pub lines : List Read
+      pub through : Through s from lines place then
+      pub last : Read
+      pub passes : Passes then place last
+      pub is_end : last.line ≡ End

@@ -1,5 +1,0 @@
-pub mod Faults
-pub mod Kinds
-pub mod Said
-pub mod Answers
-pub mod Steps
