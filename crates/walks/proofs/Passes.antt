@@ -91,13 +91,14 @@ module _ (A : Algebra) {C : Type 0} (value : C → A.Value) (n : ℕ) where
       missed a b la lb h = ap (option_map value) (least_there n cells s t o a b lt lb (λ e. h (omega arith, omega arith, omega arith, omega arith, λ same. ne (sym e.0 ∙ same ∙ e.1))))
 
   -- the same, where the three cells were read
-  pub improved_read : (k s t : ℕ) (cells : List (Cell C)) (x y z : Cell C) (o : Option C) → n * n ≤ length cells → s < n → t < n → (s ≡ t → ⊥) →
-      x ≡ cell n cells s t → y ≡ cell n cells s k → z ≡ cell n cells k t → LeastOf A (Either A (option_map value x.least) (option_map value y.least) (option_map value z.least)) (option_map value o) →
+  pub improved_read : (k s t : ℕ) (cells : List (Cell C)) (x z : Cell C) (first o : Option C) → n * n ≤ length cells → s < n → t < n → (s ≡ t → ⊥) →
+      x ≡ cell n cells s t → option_map value first ≡ least_in A value n cells s k → z ≡ cell n cells k t →
+      LeastOf A (Either A (option_map value x.least) (option_map value first) (option_map value z.least)) (option_map value o) →
       Improved A value n k (Block s (s + 1) t (t + 1)) cells (set cells (s * n + t) (record { card = x.card; least = o }))
-  improved_read k s t cells x y z o room ls lt ne ex ey ez best =
+  improved_read k s t cells x z first o room ls lt ne ex ey ez best =
       subst (λ x. Improved A value n k (Block s (s + 1) t (t + 1)) cells (set cells (s * n + t) (record { card = x.card; least = o }))) (sym ex)
       (improved_write k s t cells o room ls lt ne
-      (subst₃ (λ x y z. LeastOf A (Either A (option_map value x.least) (option_map value y.least) (option_map value z.least)) (option_map value o)) ex ey ez best))
+      (subst₃ (λ x p z. LeastOf A (Either A (option_map value x.least) p (option_map value z.least)) (option_map value o)) ex ey ez best))
 
   pub improved_none : (k : ℕ) (Hit : ℕ → ℕ → Type 0) (cells : List (Cell C)) → ((s t : ℕ) → Hit s t → ⊥) → Improved A value n k Hit cells cells
   improved_none k Hit cells none = record { hit = λ s t ls lt h. absurd (none s t h); missed = λ s t ls lt h. refl; kept = kept_none n cells }

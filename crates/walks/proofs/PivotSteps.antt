@@ -1,5 +1,6 @@
 -- Passes by way of one pivot, after each other.
-use Rattle.std.proofs.Common.{◌≡◌, ℕ, ◌<◌, sym, refl, ◌∙◌, subst, subst₂}
+use Rattle.std.proofs.Common.{◌≡◌, ℕ, ◌<◌, Option, sym, refl, ◌∙◌, subst, subst₂}
+use Rattle.walks.specs.Cells.{least_in}
 use Rattle.walks.specs.Eliminated.{Improved}
 use Rattle.walks.specs.Pivots.{SamePivot, Passed}
 use Rattle.walks.specs.declared.eliminate.Pivot.{Pivot}
@@ -28,3 +29,8 @@ module _ {C : Type 0} {K : _} where
       (Improved K.algebra K.value p.n p.at H p.cells.now q.cells.now → Improved K.algebra K.value p.n p.at H' q.cells.now r.cells.now →
       Improved K.algebra K.value p.n p.at Both p.cells.now r.cells.now) → Passed H p q → Passed H' q r → Passed Both p r
   passed_then join f g = record { same = same_then f.same g.same; improved = join f.improved (passed_on f.same g) }
+
+  -- a cost to the pivot that a pass did not touch, in the words of the pivot that it has become
+  pub still : {Hit : ℕ → ℕ → Type 0} {p q : Pivot C K} → Passed Hit p q → (s : ℕ) → s < p.n → (Hit s p.at → ⊥) → (o : Option K.algebra.Value) →
+      o ≡ least_in K.algebra K.value p.n p.cells.now s p.at → o ≡ least_in K.algebra K.value q.n q.cells.now s q.at
+  still {p = p} f s l none o e = rw (f.same.n, f.same.at) (e ∙ sym (f.improved.missed s p.at l (inside p) none))

@@ -5,7 +5,7 @@ ghost use Rattle.std.specs.Prelude.{◌≡◌, ℕ, ◌+◌, ◌*◌, ◌<◌, �
 ghost use Rattle.std.specs.Option.{option_map};
 ghost use Rattle.walks.specs.Walk.{LeastOf};
 ghost use Rattle.walks.specs.Theorems.{Either};
-ghost use Rattle.walks.specs.Cells.{Laid, Kept, Each, cards_in};
+ghost use Rattle.walks.specs.Cells.{Laid, Kept, Each, cards_in, least_in};
 ghost use Rattle.walks.specs.Eliminated.{Block, Cross, Joinable, UndercutUnit, Calmed, Ready, FirstDone, SecondDone, ThirdDone, SweptTo, FirstFound};
 
 use crate::Cell;
@@ -51,8 +51,17 @@ struct Pivot<'a, C: Cost> {
 impl<C: Cost> Pivot<'_, C> {
     ghost use Rattle.walks.specs.Pivots.{ClosesBy, Passed};
 
-    // One cell by way of the pivot.
-    fn improve(&mut self, s: usize, t: usize)
+    // The least cost from `s` to `t` that was found so far.
+    fn least(&self, s: usize, t: usize) -> Option<C>
+        requires { (s < self.now.n) × (t < self.now.n) }
+        ensures { option_map C.Cost.value result ≡ least_in C.Cost.algebra C.Cost.value self.now.n self.now.cells.now s t }
+    {
+        cell_at(self.cells, self.n, s, t).least
+    }
+
+    // One cell by way of the pivot. `first` is the cost from its row's format to the pivot, which is read once for a whole row.
+    fn improve(&mut self, first: Option<C>, s: usize, t: usize)
+        requires first { option_map C.Cost.value first ≡ least_in C.Cost.algebra C.Cost.value self.old.n self.old.cells.now s self.old.at }
         requires row { (s < self.old.n) × (s ≢ self.old.at) }
         requires column { (t < self.old.n) × (t ≢ self.old.at) }
         requires apart { s ≢ t }
@@ -60,7 +69,6 @@ impl<C: Cost> Pivot<'_, C> {
     {
         // Lent once more first: the checker covers no slice in a field behind a `&mut` that is lent as `&`.
         let cells = &mut *self.cells;
-        let first = cell_at(cells, self.n, s, self.at).least;
         let second = cell_at(cells, self.n, self.at, t).least;
         let cell = &mut cells[s * self.n + t];
         cell.least = better(cell.least, first, second);
@@ -72,9 +80,11 @@ impl<C: Cost> Pivot<'_, C> {
         requires columns { (low ≤ high) × (high ≤ self.old.n) × ((low ≤ self.old.at) → (self.old.at < high) → ⊥) }
         ensures { Passed (Block s (s + 1) low high) self.old self.new }
     {
+        let at = self.at;
+        let first = self.least(s, at);
         for t in low..high {
             if t != s {
-                self.improve(s, t);
+                self.improve(first, s, t);
             }
         }
     }
@@ -94,9 +104,12 @@ impl<C: Cost> Pivot<'_, C> {
         requires lower { t < self.old.at }
         ensures { Passed (Cross t (self.old.at + 1) self.old.n) self.old self.new }
     {
-        for s in self.at + 1..self.n {
-            self.improve(s, t);
-            self.improve(t, s);
+        let at = self.at;
+        let first = self.least(t, at);
+        for s in at + 1..self.n {
+            let to_pivot = self.least(s, at);
+            self.improve(to_pivot, s, t);
+            self.improve(first, t, s);
         }
     }
 
@@ -105,10 +118,7 @@ impl<C: Cost> Pivot<'_, C> {
         requires lower { k < self.now.at }
         ensures { Decides result (ClosesBy self.now k) }
     {
-        undercut_unit(
-            cell_at(self.cells, self.n, self.at, k).least,
-            cell_at(self.cells, self.n, k, self.at).least,
-        )
+        undercut_unit(self.least(self.at, k), self.least(k, self.at))
     }
 
     // Whether the costs from the pivot to some lower format and back undercut the unit.

@@ -21,15 +21,15 @@ bounds-cells-s g c = ready_place _ _ _ _ _ c.args.self.now.ready _ _ c.requires.
 pub better-cell-requires : goal.better-cell-requires
 better-cell-requires g c =
     let p = c.args.self.now in
-    rw (c.cell_at-first.ensures, c.cell_at-second.ensures) (∥∥₁_map p.ready (λ ready. near_joinable g.C.Cost.algebra p.n _ _ ready.small
+    rw (c.requires.first, c.cell_at-second.ensures) (∥∥₁_map p.ready (λ ready. near_joinable g.C.Cost.algebra p.n _ _ ready.small
     (ready.near c.args.s c.requires.row.0 c.requires.row.1).0 (ready.near c.args.t c.requires.column.0 c.requires.column.1).1))
 
 pub invariant_of-self : goal.invariant_of-self
 invariant_of-self g c =
     let p = c.args.self.now in
     let here = ready_place _ _ _ _ _ p.ready _ _ c.requires.row.0 c.requires.column.0 in
-    let improved = improved_read g.C.Cost.algebra g.C.Cost.value p.n p.at c.args.s c.args.t p.cells.now _ c.cell_at-first.result c.cell_at-second.result c.better-cell.result
-    (ready_room _ _ _ _ _ p.ready) c.requires.row.0 c.requires.column.0 c.requires.apart (get_or_default _ _ _ _ here) c.cell_at-first.ensures c.cell_at-second.ensures c.better-cell.ensures in
+    let improved = improved_read g.C.Cost.algebra g.C.Cost.value p.n p.at c.args.s c.args.t p.cells.now _ c.cell_at-second.result c.args.first c.better-cell.result
+    (ready_room _ _ _ _ _ p.ready) c.requires.row.0 c.requires.column.0 c.requires.apart (get_or_default _ _ _ _ here) c.requires.first c.cell_at-second.ensures c.better-cell.ensures in
     record { ready = ∥∥₁_map p.ready (ready_kept _ _ _ _ _ _ _ (λ j. (λ h. c.requires.column.1 (omega arith), λ h. c.requires.row.1 (omega arith))) improved) }
 
 pub returns : goal.returns
@@ -38,6 +38,6 @@ returns g c =
     let here = ready_place _ _ _ _ _ p.ready _ _ c.requires.row.0 c.requires.column.0 in
     record {
       same = record { n = refl; at = refl; cells = refl };
-      improved = improved_read g.C.Cost.algebra g.C.Cost.value p.n p.at c.args.s c.args.t p.cells.now _ c.cell_at-first.result c.cell_at-second.result c.better-cell.result
-          (ready_room _ _ _ _ _ p.ready) c.requires.row.0 c.requires.column.0 c.requires.apart (get_or_default _ _ _ _ here) c.cell_at-first.ensures c.cell_at-second.ensures c.better-cell.ensures;
+      improved = improved_read g.C.Cost.algebra g.C.Cost.value p.n p.at c.args.s c.args.t p.cells.now _ c.cell_at-second.result c.args.first c.better-cell.result
+          (ready_room _ _ _ _ _ p.ready) c.requires.row.0 c.requires.column.0 c.requires.apart (get_or_default _ _ _ _ here) c.requires.first c.cell_at-second.ensures c.better-cell.ensures;
     }

@@ -4,7 +4,7 @@ use Rattle.std.proofs.lemmas.Bool.{cases_lt}
 use Rattle.walks.specs.Eliminated.{Block}
 use Rattle.walks.specs.Pivots.{Passed}
 use Rattle.walks.proofs.Passes.{improved_as, block_right}
-use Rattle.walks.proofs.PivotSteps.{inside, passed_then}
+use Rattle.walks.proofs.PivotSteps.{inside, passed_then, still}
 use Rattle.walks.proofs.eliminate.Pivot.pass_row.Goals as goal
 use Rattle.walks.proofs.eliminate.Pivot.pass_row.Goals.{then-t-s, else-t-s}
 
@@ -16,6 +16,7 @@ pub improve-requires : goal.improve-requires
 improve-requires g c =
     let same = c.loop-t.invariant.same in
     record {
+      first = still c.loop-t.invariant _ c.requires.row.0 (λ h. c.requires.columns.2 h.2 (omega (arith, h.3))) _ c.least-first.ensures;
       row = rw (same.n, same.at) c.requires.row;
       column = rw (same.n, same.at) (omega arith, λ e. c.requires.columns.2 (omega arith) (omega arith));
       apart = λ e. c.if-t-s.true (sym e);
