@@ -18,6 +18,7 @@ pub enum Note {
 }
 
 // The two formats of a leg.
+#[repr(C)]
 #[derive(Clone, Copy, Debug, PartialEq, Eq)]
 pub struct Ends {
     pub from: Format,

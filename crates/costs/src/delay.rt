@@ -8,6 +8,7 @@ use crate::Cost;
 const MOST_LINES: i32 = 1_000_000;
 
 // So many video lines; the smaller delay undercuts.
+#[repr(C)]
 #[derive(Clone, Copy, Debug, PartialEq, Eq)]
 pub struct Delay {
     pub lines: i32,

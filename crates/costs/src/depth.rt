@@ -8,6 +8,7 @@ use crate::Cost;
 const MOST_BITS: u8 = 16;
 
 // So many bits of a sample; the larger depth undercuts.
+#[repr(C)]
 #[derive(Clone, Copy, Debug, PartialEq, Eq)]
 pub struct Depth {
     pub bits: u8,

@@ -64,9 +64,9 @@ fn live_entry<C: Cost>(n: usize, held: Option<Entry<C>>) -> Option<Entry<C>>
 fn cost_for_pair<C: Cost>(n: usize, held: Option<Entry<C>>, from: Format, to: Format) -> Option<C>
     ensures { result ≡ cost_for (admitted_by C.Cost.algebra C.Cost.value) n held from to }
 {
-    live_entry(n, held)
-        .filter(|entry| entry.from == from && entry.to == to)
-        .map(|entry| entry.cost)
+    // The pair is compared first: a search goes by many entries of other pairs.
+    let entry = held.filter(|entry| entry.from == from && entry.to == to)?;
+    live_entry(n, Some(entry)).map(|entry| entry.cost)
 }
 
 impl<'a, C: Cost> List<'a, C> {

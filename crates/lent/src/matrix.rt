@@ -18,7 +18,7 @@ pub struct Matrix<'a, C> {
 }
 
 // Whether so many places will do for n formats.
-fn matrix_fits(n: usize, places: usize) -> bool
+pub(crate) fn matrix_fits(n: usize, places: usize) -> bool
     ensures { result ≡ matrix_fits n places }
 {
     size_fits(n) && n * n <= places
