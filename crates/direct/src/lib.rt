@@ -1,0 +1,6 @@
+// Routes that are asked for without a ticket, by a host that has the cost of each pair of formats at hand.
+#![tactic(auto)]
+
+mod cards;
+
+pub use cards::route_cards;
