@@ -2,7 +2,9 @@
 #![tactic(auto)]
 
 mod answer;
+mod on_stack;
 mod output;
 mod text;
 
 pub use answer::{PlaceShort, View, answer_ticket, write_answer};
+pub use on_stack::answer_on_stack;
