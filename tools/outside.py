@@ -464,7 +464,7 @@ def check_all(program: str, seed: int, indices: range) -> int:
 
 def main() -> int:
     parser = argparse.ArgumentParser(description="Runs the program on generated tickets and checks every answer.")
-    parser.add_argument("--program", default="crates/route_tickets/out/route_tickets")
+    parser.add_argument("--program", default="crates/route/out/route")
     parser.add_argument("--count", type=int, default=5000, help="how many tickets")
     parser.add_argument("--seed", type=int, default=1)
     parser.add_argument("--only", type=int, metavar="INDEX", help="one ticket")

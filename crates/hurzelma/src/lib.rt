@@ -1,0 +1,110 @@
+// What a host in C calls: `host/hurzelma.h` declares these functions, with the sizes and the numbers. They allocate nothing, keep
+// nothing from one call to the next, and work in some hundred thousand bytes of the stack.
+#![tactic(auto)]
+
+ghost use Rattle.std.specs.Prelude.{◌≡◌};
+ghost use Rattle.costs.specs.Delay.{delay};
+ghost use Rattle.costs.specs.Depth.{depth, bits};
+ghost use Rattle.bay.specs.Faults.{refused};
+ghost use Rattle.hurzelma.specs.Host.{fault_number, told, RouteTold, TextTold};
+
+use bay::{BayFault, Ends};
+use costs::{Cost, Delay, Depth};
+use direct::route_cards;
+use listing::answer_on_stack;
+use registers::{Code, Layer, MOST_FORMATS};
+use walks::Cell;
+
+// As many cells as a route over the most formats wants.
+const CELLS: usize = MOST_FORMATS * MOST_FORMATS;
+
+// A route over so few formats has a table of its own: to clear the large one would take longer than the route.
+const FEW_FORMATS: usize = 16;
+
+// As many cells as a route over few formats wants.
+const FEW_CELLS: usize = FEW_FORMATS * FEW_FORMATS;
+
+// The answer was written.
+const WRITTEN: u32 = 0;
+
+// The place is too short for the answer, and is as it was.
+const PLACE_SHORT: u32 = 1;
+
+// A fault as one number, which is not 0.
+fn fault_number(code: Code) -> u32
+    ensures { result ≡ fault_number code }
+{
+    let layer = match code.layer {
+        Layer::Ticket => 1,
+        Layer::Bay => 2,
+        Layer::Register => 3,
+    };
+    layer * 65_536 + u32::from(code.number) * 256 + u32::from(code.part)
+}
+
+// What a host is told of a route: 0 where it is granted.
+fn told(answer: Result<usize, BayFault>) -> u32
+    ensures { result ≡ told (refused answer) }
+{
+    match answer {
+        Ok(_) => 0,
+        Err(fault) => fault_number(fault.code()),
+    }
+}
+
+// Routes legs over delays, row by row: 0, or the number of the fault.
+#[unsafe(no_mangle)]
+pub extern "C" fn hurzelma_route_delay(
+    n: usize,
+    cards: &[Delay],
+    legs: &[Ends],
+    costs: &mut [Delay],
+    chains: &mut [u8],
+) -> u32
+    ensures { RouteTold delay (λ d. d.lines) n cards.now legs.now costs.old costs.new chains.old chains.new result }
+{
+    if n <= FEW_FORMATS {
+        let mut table = [Cell::empty(); FEW_CELLS];
+        told(route_cards(n, cards, legs, &mut table, costs, chains))
+    } else {
+        let mut table = [Cell::empty(); CELLS];
+        told(route_cards(n, cards, legs, &mut table, costs, chains))
+    }
+}
+
+// Routes legs over depths, row by row: 0, or the number of the fault.
+#[unsafe(no_mangle)]
+pub extern "C" fn hurzelma_route_depth(
+    n: usize,
+    cards: &[Depth],
+    legs: &[Ends],
+    costs: &mut [Depth],
+    chains: &mut [u8],
+) -> u32
+    ensures { RouteTold depth (λ d. bits d.bits) n cards.now legs.now costs.old costs.new chains.old chains.new result }
+{
+    if n <= FEW_FORMATS {
+        let mut table = [Cell::empty(); FEW_CELLS];
+        told(route_cards(n, cards, legs, &mut table, costs, chains))
+    } else {
+        let mut table = [Cell::empty(); CELLS];
+        told(route_cards(n, cards, legs, &mut table, costs, chains))
+    }
+}
+
+// Routes a ticket and writes the text of its answer. The length is that of the text, or what a place too short would need.
+#[unsafe(no_mangle)]
+pub extern "C" fn hurzelma_answer(text: &[u8], place: &mut [u8], length: &mut usize) -> u32
+    ensures { TextTold text.now place.old place.new length.new result }
+{
+    match answer_on_stack(text, place) {
+        Ok(written) => {
+            *length = written;
+            WRITTEN
+        }
+        Err(short) => {
+            *length = short.needed;
+            PLACE_SHORT
+        }
+    }
+}

@@ -1,0 +1,79 @@
+/* A host in C: it asks for two routes by numbers and for the answers to two tickets, and prints what it is told. */
+#include "hurzelma.h"
+
+#include <stdio.h>
+#include <string.h>
+
+#define FORMATS 3
+#define LEGS 2
+
+static void print_told(uint32_t told) {
+    printf("refused: layer %u, number %u, part %u\n", HURZELMA_LAYER(told), HURZELMA_NUMBER(told), HURZELMA_PART(told));
+}
+
+static void print_row(const uint8_t *row) {
+    for (unsigned i = 1; i <= row[0]; i++) {
+        printf(" %u", row[i]);
+    }
+    printf("\n");
+}
+
+/* Routes legs over three formats, and prints each leg's cost and chain, or the loop. */
+static void route(const int32_t cards[FORMATS * FORMATS], const struct hurzelma_leg legs[LEGS]) {
+    int32_t costs[LEGS] = {0};
+    uint8_t chains[LEGS * HURZELMA_ROW] = {0};
+    uint32_t told = hurzelma_route_delay(FORMATS, cards, FORMATS * FORMATS, legs, LEGS, costs, LEGS, chains, sizeof chains);
+    if (told != HURZELMA_GRANTED) {
+        print_told(told);
+        if (HURZELMA_NUMBER(told) == 26) {
+            printf("loop:");
+            print_row(chains);
+        }
+        return;
+    }
+    for (size_t k = 0; k < LEGS; k++) {
+        const uint8_t *row = chains + k * HURZELMA_ROW;
+        if (row[0] == 0) {
+            printf("leg %zu: none\n", k);
+        } else {
+            printf("leg %zu: %d by", k, (int)costs[k]);
+            print_row(row);
+        }
+    }
+}
+
+/* Answers a ticket, first in a place that may be too short. */
+static void answer(const char *ticket, size_t room) {
+    uint8_t place[HURZELMA_ANSWER];
+    size_t length = 0;
+    const uint8_t *text = (const uint8_t *)ticket;
+    if (hurzelma_answer(text, strlen(ticket), place, room, &length) == HURZELMA_PLACE_SHORT) {
+        printf("a place of %zu bytes is too short: %zu are wanted\n", room, length);
+        hurzelma_answer(text, strlen(ticket), place, length, &length);
+    }
+    fwrite(place, 1, length, stdout);
+}
+
+int main(void) {
+    enum { NO = HURZELMA_NO_DELAY };
+    const struct hurzelma_leg legs[LEGS] = {{0, 1}, {1, 0}};
+    const struct hurzelma_leg wrong[LEGS] = {{0, 1}, {2, 2}};
+    const int32_t cards[FORMATS * FORMATS] = {
+        NO, 4, 6,
+        NO, NO, NO,
+        NO, -3, NO,
+    };
+    const int32_t gaining[FORMATS * FORMATS] = {
+        NO, 2, NO,
+        NO, NO, -4,
+        1, NO, NO,
+    };
+
+    route(cards, legs);
+    route(gaining, legs);
+    route(cards, wrong);
+    answer("(bay delay 3)\n(format 0 UYVY)\n(format 1 v210)\n(format 2 NV12)\n"
+           "(card (0 1) 4)\n(card (0 2) 6)\n(card (2 1) -3)\n(leg (0 1))\n(leg (1 0))\n(end)\n", 16);
+    answer("(bay delay 1)\n", HURZELMA_ANSWER);
+    return 0;
+}
