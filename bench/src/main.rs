@@ -1,0 +1,219 @@
+//! Times the route call beside other libraries and code by hand.
+//!
+//!     bench                                     the tables
+//!     bench one PEER/KIND/N/CARDS/LEGS TIMES    so many calls, to count their instructions; CARDS is sparse or complete
+//!     bench ticket                              writes the largest ticket
+//!     bench program PROGRAM TICKET              times whole runs of the program on it
+
+mod cases;
+mod peers;
+
+use cases::{Case, Kind};
+use peers::{peer, Peer};
+use std::fs::File;
+use std::hint::black_box;
+use std::process::{Command, Stdio};
+use std::time::Instant;
+
+const SIZES: [usize; 4] = [8, 16, 32, 64];
+const LEGS: [usize; 2] = [1, 32];
+const BATCH_SECONDS: f64 = 0.01;
+const ROUNDS: usize = 12;
+
+fn cards(n: usize, complete: bool) -> usize {
+    let pairs = n * (n - 1);
+    if complete {
+        pairs
+    } else {
+        (pairs + 5) / 10
+    }
+}
+
+fn seconds(peer: &mut Peer, calls: usize) -> f64 {
+    let start = Instant::now();
+    for _ in 0..calls {
+        black_box(peer(None));
+    }
+    start.elapsed().as_secs_f64()
+}
+
+/// Nanoseconds per call of each, the best of the batches, which take turns.
+fn best(peers: &mut [Peer]) -> Vec<f64> {
+    let calls: Vec<usize> = peers
+        .iter_mut()
+        .map(|peer| {
+            let mut calls = 1;
+            while seconds(peer, calls) < BATCH_SECONDS {
+                calls *= 2;
+            }
+            calls
+        })
+        .collect();
+    let mut best = vec![f64::INFINITY; peers.len()];
+    for _ in 0..ROUNDS {
+        for (k, peer) in peers.iter_mut().enumerate() {
+            best[k] = best[k].min(seconds(peer, calls[k]) / calls[k] as f64 * 1e9);
+        }
+    }
+    best
+}
+
+/// What was measured for one set of cards.
+struct Group {
+    kind: Kind,
+    n: usize,
+    complete: bool,
+    names: Vec<&'static str>,
+    nanoseconds: Vec<f64>,
+}
+
+impl Group {
+    fn measure(kind: Kind, n: usize, complete: bool) -> Group {
+        let cards = cards(n, complete);
+        let [one, many] = LEGS.map(|legs| Case::new(kind, n, cards, legs));
+        let mut names = vec!["hand", "boost"];
+        if kind == Kind::Delay {
+            names.extend(["boost-plus", "petgraph", "hand-bf", "boost-bf", "petgraph-bf"]);
+        }
+        let mut peers = vec![peer("ours", &one), peer("ours", &many)];
+        peers.extend(names.iter().map(|name| peer(name, &many)));
+        names.splice(0..0, ["1", "32"]);
+        // Each peer finds our costs, and our chains have them.
+        for (k, &leg) in many.legs.iter().enumerate() {
+            let cost = peers[1](Some(leg));
+            for (name, peer) in names.iter().zip(&mut peers) {
+                let asked = match *name {
+                    "1" => k == 0,
+                    name => !name.ends_with("-bf") || leg.from == many.legs[0].from,
+                };
+                if asked {
+                    assert_eq!(peer(Some(leg)), cost, "{name}, {n} formats, {cards} cards, leg {k}: another cost");
+                }
+            }
+        }
+        let nanoseconds = best(&mut peers);
+        Group { kind, n, complete, names, nanoseconds }
+    }
+
+    fn of(&self, name: &str) -> f64 {
+        self.names.iter().position(|other| *other == name).map_or(f64::NAN, |k| self.nanoseconds[k])
+    }
+
+    fn ours(&self, legs: usize) -> f64 {
+        self.of(&legs.to_string())
+    }
+
+    // The faster of the ways to call it.
+    fn boost(&self) -> f64 {
+        self.of("boost").min(self.of("boost-plus"))
+    }
+
+    fn title(&self, legs: usize) -> String {
+        let kind = if self.kind == Kind::Delay { "delay" } else { "depth" };
+        format!("{kind} {:3} {:6} {legs:5}", self.n, cards(self.n, self.complete))
+    }
+}
+
+// A time, and how many times as long our call takes.
+fn beside(ours: f64, peer: f64) -> String {
+    if peer.is_nan() {
+        format!("{:>11} {:>6}", "-", "-")
+    } else {
+        format!("{peer:11.0} {:6.2}", ours / peer)
+    }
+}
+
+fn tables() {
+    let mut groups = Vec::new();
+    for kind in [Kind::Delay, Kind::Depth] {
+        for n in SIZES {
+            groups.extend([false, true].map(|complete| Group::measure(kind, n, complete)));
+        }
+    }
+    println!("nanoseconds per call; x is ours / peer\n");
+    println!("against the least costs of all pairs (Floyd-Warshall), without chains; boost-plus sums by std::plus");
+    table(&["hand", "boost", "boost-plus", "petgraph"], &groups, &LEGS);
+    println!("\nagainst the least costs from one source (Bellman-Ford); petgraph keeps predecessors too");
+    table(&["hand-bf", "boost-bf", "petgraph-bf"], &groups[..groups.len() / 2], &[1]);
+    println!("\ntargets (the worst case of each)");
+    let largest = |complete| groups.iter().filter(move |group| group.n == 64 && group.complete == complete);
+    let default = |group: &Group| group.of("boost");
+    target("64 formats, complete: ours / Boost", 1.0, largest(true), default);
+    target("64 formats, complete: ours / Boost by the faster sum", 1.0, largest(true), Group::boost);
+    target("64 formats, 10 % of the cards: ours / Boost", 0.5, largest(false), default);
+    target("64 formats, 10 % of the cards: ours / Boost by the faster sum", 0.5, largest(false), Group::boost);
+    let delays = groups.iter().filter(|group| group.kind == Kind::Delay);
+    target("every size: ours / petgraph", 1.0, delays, |group| group.of("petgraph"));
+}
+
+fn table(peers: &[&str], groups: &[Group], legs: &[usize]) {
+    let titles = peers.iter().map(|name| format!(" {name:>11}      x"));
+    println!("kind    n  cards  legs        ours{}", titles.collect::<String>());
+    for group in groups {
+        for &legs in legs {
+            let ours = group.ours(legs);
+            let cells = peers.iter().map(|name| format!(" {}", beside(ours, group.of(name))));
+            println!("{} {ours:11.0}{}", group.title(legs), cells.collect::<String>());
+        }
+    }
+}
+
+fn target<'a>(what: &str, limit: f64, groups: impl Iterator<Item = &'a Group>, peer: fn(&Group) -> f64) {
+    let cases = groups.flat_map(|group| LEGS.map(|legs| (group.ours(legs) / peer(group), group.title(legs))));
+    let (ratio, title) = cases.max_by(|a, b| a.0.total_cmp(&b.0)).unwrap();
+    let met = if ratio <= limit { "met" } else { "MISSED" };
+    println!("{what} at most {limit}: {ratio:.2} {met} ({})", title.split_whitespace().collect::<Vec<_>>().join(" "));
+}
+
+fn one(name: &str, times: usize) {
+    let words: Vec<&str> = name.split('/').collect();
+    let [who, kind, n, density, legs] = words[..] else { panic!("{name}: not PEER/KIND/N/CARDS/LEGS") };
+    let kind = if kind == "depth" { Kind::Depth } else { Kind::Delay };
+    let n = n.parse().unwrap();
+    let case = Case::new(kind, n, cards(n, density == "complete"), legs.parse().unwrap());
+    let mut peer = peer(who, &case);
+    for _ in 0..times {
+        black_box(peer(None));
+    }
+}
+
+/// 64 formats, 512 cards and 32 legs.
+fn largest() -> Case {
+    Case::new(Kind::Delay, 64, 512, 32)
+}
+
+fn program(path: &str, ticket: &str) {
+    let run = |path: &str| {
+        let start = Instant::now();
+        let input = File::open(ticket).unwrap();
+        let output = Command::new(path).stdin(input).stderr(Stdio::inherit()).output().unwrap();
+        assert!(output.status.success(), "{path}: {}", output.status);
+        (start.elapsed().as_secs_f64() * 1e6, String::from_utf8(output.stdout).unwrap())
+    };
+    let case = largest();
+    let mut hand = peer("hand", &case);
+    let answer = run(path).1;
+    assert_eq!(answer.lines().count(), case.legs.len() + 1, "the program prints {answer}");
+    for (k, (line, &leg)) in answer.lines().zip(&case.legs).enumerate() {
+        let cost = hand(Some(leg)).map_or("none)".to_string(), |cost| format!("{cost} ("));
+        let begin = format!("(leg {k} ({} {}) {cost}", leg.from, leg.to);
+        assert!(line.starts_with(&begin), "the program prints {line}, and not {begin}");
+    }
+    for path in [path, "/bin/true"] {
+        let mut times: Vec<f64> = (0..500).map(|_| run(path).0).collect();
+        times.sort_by(f64::total_cmp);
+        println!("{path}: {:.0} µs at best, {:.0} µs in the middle of {} runs", times[0], times[250], times.len());
+    }
+}
+
+fn main() {
+    let args: Vec<String> = std::env::args().skip(1).collect();
+    let args: Vec<&str> = args.iter().map(String::as_str).collect();
+    match args[..] {
+        [] => tables(),
+        ["one", name, times] => one(name, times.parse().unwrap()),
+        ["ticket"] => print!("{}", largest().ticket()),
+        ["program", path, ticket] => program(path, ticket),
+        _ => panic!("bench [one NAME TIMES | ticket | program PROGRAM TICKET]"),
+    }
+}
