@@ -37,51 +37,46 @@ fn seconds(peer: &mut Peer, calls: usize) -> f64 {
     start.elapsed().as_secs_f64()
 }
 
-/// Nanoseconds per call of each, the best of the batches, which take turns.
-fn best(peers: &mut [Peer]) -> Vec<f64> {
-    let calls: Vec<usize> = peers
-        .iter_mut()
-        .map(|peer| {
-            let mut calls = 1;
-            while seconds(peer, calls) < BATCH_SECONDS {
-                calls *= 2;
-            }
-            calls
-        })
-        .collect();
-    let mut best = vec![f64::INFINITY; peers.len()];
-    for _ in 0..ROUNDS {
-        for (k, peer) in peers.iter_mut().enumerate() {
-            best[k] = best[k].min(seconds(peer, calls[k]) / calls[k] as f64 * 1e9);
-        }
-    }
-    best
-}
-
-/// What was measured for one set of cards.
+/// What is measured for one set of cards.
 struct Group {
     kind: Kind,
     n: usize,
     complete: bool,
-    names: Vec<&'static str>,
-    nanoseconds: Vec<f64>,
+    runs: Vec<Run>,
+}
+
+struct Run {
+    name: &'static str,
+    peer: Peer,
+    calls: usize,
+    nanoseconds: f64,
+}
+
+impl Run {
+    // Warms up, and finds how many calls make a batch.
+    fn new(name: &'static str, mut peer: Peer) -> Run {
+        let mut calls = 1;
+        while seconds(&mut peer, calls) < BATCH_SECONDS {
+            calls *= 2;
+        }
+        Run { name, peer, calls, nanoseconds: f64::INFINITY }
+    }
 }
 
 impl Group {
-    fn measure(kind: Kind, n: usize, complete: bool) -> Group {
+    fn new(kind: Kind, n: usize, complete: bool) -> Group {
         let cards = cards(n, complete);
         let [one, many] = LEGS.map(|legs| Case::new(kind, n, cards, legs));
-        let mut names = vec!["hand", "boost"];
-        if kind == Kind::Delay {
-            names.extend(["boost-plus", "petgraph", "hand-bf", "boost-bf", "petgraph-bf"]);
-        }
-        let mut peers = vec![peer("ours", &one), peer("ours", &many)];
-        peers.extend(names.iter().map(|name| peer(name, &many)));
-        names.splice(0..0, ["1", "32"]);
-        // Each peer finds our costs, and our chains have them.
+        let mut runs = vec![Run::new("1", peer("ours", &one)), Run::new("32", peer("ours", &many))];
+        let peers: &[&str] = match kind {
+            Kind::Delay => &["hand", "boost", "boost-plus", "petgraph", "hand-bf", "boost-bf", "petgraph-bf"],
+            Kind::Depth => &["hand", "boost"],
+        };
+        runs.extend(peers.iter().map(|name| Run::new(name, peer(name, &many))));
+        // Each finds our costs, and our chains have them.
         for (k, &leg) in many.legs.iter().enumerate() {
-            let cost = peers[1](Some(leg));
-            for (name, peer) in names.iter().zip(&mut peers) {
+            let cost = (runs[1].peer)(Some(leg));
+            for Run { name, peer, .. } in &mut runs {
                 let asked = match *name {
                     "1" => k == 0,
                     name => !name.ends_with("-bf") || leg.from == many.legs[0].from,
@@ -91,12 +86,19 @@ impl Group {
                 }
             }
         }
-        let nanoseconds = best(&mut peers);
-        Group { kind, n, complete, names, nanoseconds }
+        Group { kind, n, complete, runs }
+    }
+
+    // Another batch of each. The best one counts.
+    fn measure(&mut self) {
+        for run in &mut self.runs {
+            let nanoseconds = seconds(&mut run.peer, run.calls) / run.calls as f64 * 1e9;
+            run.nanoseconds = run.nanoseconds.min(nanoseconds);
+        }
     }
 
     fn of(&self, name: &str) -> f64 {
-        self.names.iter().position(|other| *other == name).map_or(f64::NAN, |k| self.nanoseconds[k])
+        self.runs.iter().find(|run| run.name == name).map_or(f64::NAN, |run| run.nanoseconds)
     }
 
     fn ours(&self, legs: usize) -> f64 {
@@ -127,8 +129,11 @@ fn tables() {
     let mut groups = Vec::new();
     for kind in [Kind::Delay, Kind::Depth] {
         for n in SIZES {
-            groups.extend([false, true].map(|complete| Group::measure(kind, n, complete)));
+            groups.extend([false, true].map(|complete| Group::new(kind, n, complete)));
         }
+    }
+    for _ in 0..ROUNDS {
+        groups.iter_mut().for_each(Group::measure);
     }
     println!("nanoseconds per call; x is ours / peer\n");
     println!("against the least costs of all pairs (Floyd-Warshall), without chains; boost-plus sums by std::plus");
@@ -202,7 +207,8 @@ fn program(path: &str, ticket: &str) {
     for path in [path, "/bin/true"] {
         let mut times: Vec<f64> = (0..500).map(|_| run(path).0).collect();
         times.sort_by(f64::total_cmp);
-        println!("{path}: {:.0} µs at best, {:.0} µs in the middle of {} runs", times[0], times[250], times.len());
+        let name = path.rsplit('/').next().unwrap();
+        println!("{name}: {:.0} µs at best, {:.0} µs in the middle of {} runs", times[0], times[250], times.len());
     }
 }
 
