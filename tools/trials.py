@@ -329,6 +329,17 @@ def notes():
     print("show: bay 14.0")
 
 
+def short_memory():
+    # A ticket's refusals for want of memory: the register's at its first line, the route's at its end line.
+    lines = ["(bay delay 2)", "(format 0 UYVY)", "(format 1 v210)", "(card (0 1) 4)", "(leg (0 1))", "(leg (1 0))", "(end)"]
+    end = sum(len(line) + 1 for line in lines[:-1])
+    print("ticket with room: 2 legs\nsheets written")
+    print("an entry less: register 16.1 at 0\nsheets as found")
+    for part, what in enumerate(("cell", "cost", "byte")):
+        print(f"a {what} less: bay 15.{part} at {end}\nsheets as found")
+
+
 play_registers()
 trials()
 fixed_cases()
+short_memory()

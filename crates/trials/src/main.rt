@@ -7,11 +7,13 @@ mod kind;
 mod play;
 mod random;
 mod route;
+mod short;
 
 use crate::dice::Dice;
 use crate::fixed::fixed_cases;
 use crate::play::{Change, play, play_all};
 use crate::random::random_trials;
+use crate::short::short_memory;
 use costs::Delay;
 use lent::{Entry, List, Matrix};
 
@@ -60,7 +62,8 @@ fn play_registers(rt: &HostRuntime) -> anyhow::Result<()> {
 fn run(rt: &HostRuntime) -> anyhow::Result<()> {
     play_registers(rt)?;
     random_trials(rt)?;
-    fixed_cases(rt)
+    fixed_cases(rt)?;
+    short_memory(rt)
 }
 
 fn main(rt: HostRuntime) -> anyhow::Result<()> {
