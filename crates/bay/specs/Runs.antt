@@ -164,8 +164,9 @@ module _ (A : Algebra) {C : Type 0} (value : C → A.Value) where
   EditAnswer p p' legs legs' call (Ok None) = (call ≡ Route) × (p' ≡ p) × (legs' ≡ legs)
   EditAnswer p p' legs legs' call (Err fault) = EditDone p p' legs legs' call (Refused fault)
 
-  -- no call was made
-  pub record Unmade (p p' : Plain A.Value) (before now : Desk C) : Type 0 where
+  -- a route was not made, for want of memory
+  pub record Unmade (p p' : Plain A.Value) (before now : Desk C) (call : Call C) : Type 0 where
+    pub route : call ≡ Route
     pub plain_is : p' ≡ p
     pub desk : now ≡ before
 
@@ -177,3 +178,9 @@ module _ (A : Algebra) {C : Type 0} (value : C → A.Value) where
     pub table : Beyond (p.register.size * p.register.size) before.table now.table
     pub costs : now.costs ≡ fold costs_step before.costs answers
     pub chains : now.chains ≡ fold chains_step before.chains answers
+
+  -- A list of calls that was left for want of memory, before its first call or at a route: those before that are made.
+  pub record RunStopped (p p' : Plain A.Value) (before now : Desk C) (calls : List (Call C)) (answers : List (Answer C)) : Type 0 where
+    pub made : RunDone p p' before now (take (length answers) calls) answers
+    pub left : length answers < length calls
+    pub wants : (length answers ≡ 0) ⊎ (slice_index_or calls (length answers) Route ≡ Route)

@@ -1,10 +1,10 @@
 // Calls of a bay given as values, one by one and as a list.
-ghost use Rattle.std.specs.Prelude.{◌≡◌, ◌*◌, ◌≤◌, length, take, IfOk, fold, MatchResult};
+ghost use Rattle.std.specs.Prelude.{◌≡◌, ◌*◌, ◌≤◌, length, take, IfOk, MatchResult};
 ghost use Rattle.bay.specs.Bays.{plain};
 ghost use Rattle.bay.specs.Legs.{booked};
 ghost use Rattle.bay.specs.Plain.{step};
 ghost use Rattle.bay.specs.Routing.{Beyond};
-ghost use Rattle.bay.specs.Runs.{CallDone, EditAnswer, Reserved, Right, RunDone, Unmade, chains_step, costs_step, route_notes};
+ghost use Rattle.bay.specs.Runs.{CallDone, EditAnswer, Reserved, Right, RunDone, RunStopped, Unmade, chains_step, costs_step, route_notes};
 ghost use Rattle.bay.specs.declared.calls.Call.TheVariants.{Route};
 
 use crate::bays::Bay;
@@ -105,8 +105,8 @@ impl<R: Register> Bay<R> {
         }
     }
 
-    // Any one call. Table and sheets are three arguments, as in `route`. Want of memory for what a route would write is found
-    // before it begins, and then nothing is done.
+    // Any one call. Table and sheets are three arguments, as in `route`. A route alone wants memory, for what it would write;
+    // where there is none, that is found before it begins, and then nothing is done.
     pub fn call(
         &mut self,
         heap: Global,
@@ -115,7 +115,7 @@ impl<R: Register> Bay<R> {
         costs: &mut [R::Cost],
         chains: &mut [u8],
     ) -> Result<Answer<R::Cost>, AllocError>
-        ensures { MatchResult result (λ answer. CallDone R.Cost.Cost.algebra R.Cost.Cost.value (plain R.Cost.Cost.algebra R.Cost.Cost.value R.Register.holds self.old) (plain R.Cost.Cost.algebra R.Cost.Cost.value R.Register.holds self.new) (record { legs = booked self.old.legs; table = table.old; costs = costs.old; chains = chains.old }) (record { legs = booked self.new.legs; table = table.new; costs = costs.new; chains = chains.new }) call answer) (λ _. Unmade R.Cost.Cost.algebra R.Cost.Cost.value (plain R.Cost.Cost.algebra R.Cost.Cost.value R.Register.holds self.old) (plain R.Cost.Cost.algebra R.Cost.Cost.value R.Register.holds self.new) (record { legs = booked self.old.legs; table = table.old; costs = costs.old; chains = chains.old }) (record { legs = booked self.new.legs; table = table.new; costs = costs.new; chains = chains.new })) }
+        ensures { MatchResult result (λ answer. CallDone R.Cost.Cost.algebra R.Cost.Cost.value (plain R.Cost.Cost.algebra R.Cost.Cost.value R.Register.holds self.old) (plain R.Cost.Cost.algebra R.Cost.Cost.value R.Register.holds self.new) (record { legs = booked self.old.legs; table = table.old; costs = costs.old; chains = chains.old }) (record { legs = booked self.new.legs; table = table.new; costs = costs.new; chains = chains.new }) call answer) (λ _. Unmade R.Cost.Cost.algebra R.Cost.Cost.value (plain R.Cost.Cost.algebra R.Cost.Cost.value R.Register.holds self.old) (plain R.Cost.Cost.algebra R.Cost.Cost.value R.Register.holds self.new) (record { legs = booked self.old.legs; table = table.old; costs = costs.old; chains = chains.old }) (record { legs = booked self.new.legs; table = table.new; costs = costs.new; chains = chains.new }) call) }
     {
         match self.edit(call) {
             Ok(Some(answer)) => Ok(answer),
@@ -127,7 +127,8 @@ impl<R: Register> Bay<R> {
         }
     }
 
-    // A list of calls, in their order, each with its answer. Every answer is the plain bay's, whatever came before it.
+    // A list of calls, in their order, each with its answer. Every answer is the plain bay's, whatever came before it. It stops for
+    // want of memory alone: before the first call, or at a route.
     pub fn run(
         &mut self,
         heap: Global,
@@ -136,7 +137,7 @@ impl<R: Register> Bay<R> {
         costs: &mut [R::Cost],
         chains: &mut [u8],
     ) -> Result<Vec<Answer<R::Cost>>, Stopped<R::Cost>>
-        ensures { MatchResult result (λ answers. RunDone R.Cost.Cost.algebra R.Cost.Cost.value (plain R.Cost.Cost.algebra R.Cost.Cost.value R.Register.holds self.old) (plain R.Cost.Cost.algebra R.Cost.Cost.value R.Register.holds self.new) (record { legs = booked self.old.legs; table = table.old; costs = costs.old; chains = chains.old }) (record { legs = booked self.new.legs; table = table.new; costs = costs.new; chains = chains.new }) calls.now answers.items) (λ stopped. RunDone R.Cost.Cost.algebra R.Cost.Cost.value (plain R.Cost.Cost.algebra R.Cost.Cost.value R.Register.holds self.old) (plain R.Cost.Cost.algebra R.Cost.Cost.value R.Register.holds self.new) (record { legs = booked self.old.legs; table = table.old; costs = costs.old; chains = chains.old }) (record { legs = booked self.new.legs; table = table.new; costs = costs.new; chains = chains.new }) (take (length stopped.answers.items) calls.now) stopped.answers.items) }
+        ensures { MatchResult result (λ answers. RunDone R.Cost.Cost.algebra R.Cost.Cost.value (plain R.Cost.Cost.algebra R.Cost.Cost.value R.Register.holds self.old) (plain R.Cost.Cost.algebra R.Cost.Cost.value R.Register.holds self.new) (record { legs = booked self.old.legs; table = table.old; costs = costs.old; chains = chains.old }) (record { legs = booked self.new.legs; table = table.new; costs = costs.new; chains = chains.new }) calls.now answers.items) (λ stopped. RunStopped R.Cost.Cost.algebra R.Cost.Cost.value (plain R.Cost.Cost.algebra R.Cost.Cost.value R.Register.holds self.old) (plain R.Cost.Cost.algebra R.Cost.Cost.value R.Register.holds self.new) (record { legs = booked self.old.legs; table = table.old; costs = costs.old; chains = chains.old }) (record { legs = booked self.new.legs; table = table.new; costs = costs.new; chains = chains.new }) calls.now stopped.answers.items) }
     {
         let Ok(mut answers) = Vec::with_capacity(heap, calls.len()) else {
             return Err(Stopped {

@@ -1,5 +1,6 @@
 -- The law grows by one call and its answer each turn.
-use Rattle.std.proofs.Common.{vec_items, arith}
+use Rattle.std.proofs.Common.{◌≡◌, ◌<◌, length, vec_items, ap, inl, inr, arith}
+use Rattle.std.proofs.lemmas.Bool.{cases_lt, false≢true}
 use Rattle.bay.specs.Bays.{plain}
 use Rattle.bay.specs.Legs.{booked}
 use Rattle.bay.proofs.RunSteps.{run_begins, run_turn, run_unmade}
@@ -28,4 +29,7 @@ loop-call-preserved g c =
 
 pub returns-in_default : goal.returns-in_default
 returns-in_default g c =
-    run_unmade g.R.Cost.Cost.algebra g.R.Cost.Cost.value (plain g.R.Cost.Cost.algebra g.R.Cost.Cost.value g.R.Register.holds c.args.self.now) (record { legs = booked c.args.self.now.legs; table = c.args.table.now; costs = c.args.costs.now; chains = c.args.chains.now }) c.args.calls.now c.new.result.items c.new.ensures.items
+    let made = run_unmade g.R.Cost.Cost.algebra g.R.Cost.Cost.value (plain g.R.Cost.Cost.algebra g.R.Cost.Cost.value g.R.Register.holds c.args.self.now) (record { legs = booked c.args.self.now.legs; table = c.args.table.now; costs = c.args.costs.now; chains = c.args.chains.now }) c.args.calls.now c.new.result.items c.new.ensures.items in
+    let none : length c.new.result.items ≡ 0 = ap length c.new.ensures.items in
+    let some : 0 < length c.args.calls.now = elim (cases_lt 0 (length c.args.calls.now)) [ inl d ↦ d | inr d ↦ absurd (false≢true (c.in_default.ensures.succeeds (omega (arith, d)))) ] in
+    record { made = made; left = omega (arith, none, some); wants = inl none }
