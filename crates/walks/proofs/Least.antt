@@ -111,6 +111,13 @@ module _ {A : Algebra} (L : Lawful A) where
   none_joined p q x (inl e) j = false≢true (ap is_some (sym e ∙ j.2))
   none_joined p q x (inr e) j = false≢true (ap is_some (sym e ∙ j.3))
 
+  pub either_none : (o p q : Option A.Value) → (p ≡ None) ⊎ (q ≡ None) → LeastOf A (Either A o p q) o
+  either_none o p q none = least_made (Either A o p q) o (λ x e. inl e) serve
+    where
+      serve : (y : A.Value) → Either A o p q y → Serves A o y
+      serve y (inl e) = (y, e, at_most_self y)
+      serve y (inr j) = absurd (none_joined p q y none j)
+
   pub joined_is : (p q : Option A.Value) (a b x : A.Value) → p ≡ Some a → q ≡ Some b → Joined A p q x → A.join a b ≡ x
   joined_is p q a b x ep eq j =
       let d : a ≡ j.0 = cc j.2 in

@@ -14,7 +14,7 @@ use Rattle.walks.specs.Theorems.{Sound, Either}
 use Rattle.walks.specs.Cells.{empty, cell, Beyond, Kept, Laid, cards_in, least_in}
 use Rattle.walks.specs.Eliminated.{Block, Cross, Joinable, UndercutUnit, Near, Ready, Improved}
 use Rattle.walks.specs.declared.cells.Cell.{Cell}
-use Rattle.walks.proofs.Least.{equal_unless, either_new, either_better, either_kept, joined_is}
+use Rattle.walks.proofs.Least.{equal_unless, either_none, either_new, either_better, either_kept, joined_is}
 
 -- addresses
 pub place_lt : (n s t : ℕ) → s < n → t < n → s * n + t < n * n
@@ -90,24 +90,21 @@ module _ (A : Algebra) {C : Type 0} (value : C → A.Value) (n : ℕ) where
       missed : (a b : ℕ) → a < n → b < n → (Block s (s + 1) t (t + 1) a b → ⊥) → least_in A value n (with_least n cells s t o) a b ≡ least_in A value n cells a b
       missed a b la lb h = ap (option_map value) (least_there n cells s t o a b lt lb (λ e. h (omega arith, omega arith, omega arith, omega arith, λ same. ne (sym e.0 ∙ same ∙ e.1))))
 
-  -- the same, where the three cells were read
-  pub improved_read : (k s t : ℕ) (cells : List (Cell C)) (x z : Cell C) (first o : Option C) → n * n ≤ length cells → s < n → t < n → (s ≡ t → ⊥) →
-      x ≡ cell n cells s t → option_map value first ≡ least_in A value n cells s k → z ≡ cell n cells k t →
-      LeastOf A (Either A (option_map value x.least) (option_map value first) (option_map value z.least)) (option_map value o) →
+  -- the same, where the three costs were read
+  pub improved_read : (k s t : ℕ) (cells : List (Cell C)) (x : Cell C) (p q : Option A.Value) (o : Option C) → n * n ≤ length cells → s < n → t < n → (s ≡ t → ⊥) →
+      x ≡ cell n cells s t → p ≡ least_in A value n cells s k → q ≡ least_in A value n cells k t →
+      LeastOf A (Either A (option_map value x.least) p q) (option_map value o) →
       Improved A value n k (Block s (s + 1) t (t + 1)) cells (set cells (s * n + t) (record { card = x.card; least = o }))
-  improved_read k s t cells x z first o room ls lt ne ex ey ez best =
+  improved_read k s t cells x p q o room ls lt ne ex ep eq best =
       subst (λ x. Improved A value n k (Block s (s + 1) t (t + 1)) cells (set cells (s * n + t) (record { card = x.card; least = o }))) (sym ex)
       (improved_write k s t cells o room ls lt ne
-      (subst₃ (λ x p z. LeastOf A (Either A (option_map value x.least) p (option_map value z.least)) (option_map value o)) ex ey ez best))
+      (subst₃ (λ x p q. LeastOf A (Either A (option_map value x.least) p q) (option_map value o)) ex ep eq best))
 
-  pub improved_none : (k : ℕ) (Hit : ℕ → ℕ → Type 0) (cells : List (Cell C)) → ((s t : ℕ) → Hit s t → ⊥) → Improved A value n k Hit cells cells
-  improved_none k Hit cells none = record { hit = λ s t ls lt h. absurd (none s t h); missed = λ s t ls lt h. refl; kept = kept_none n cells }
-
-  -- the same cells under another name
-  pub improved_as : (k : ℕ) (H H' : ℕ → ℕ → Type 0) (entry exit : List (Cell C)) → ((s t : ℕ) → H s t → H' s t) → ((s t : ℕ) → H' s t → H s t) →
-      Improved A value n k H entry exit → Improved A value n k H' entry exit
-  improved_as k H H' entry exit into back i =
-      record { hit = λ s t ls lt h. i.hit s t ls lt (back s t h); missed = λ s t ls lt h. i.missed s t ls lt (λ g. h (into s t g)); kept = i.kept }
+  -- a pass over cells that it leaves: their row has no cost to the pivot, or their column none from it
+  pub improved_none : Lawful A → (k : ℕ) (Hit : ℕ → ℕ → Type 0) (cells : List (Cell C)) →
+      ((s t : ℕ) → Hit s t → (least_in A value n cells s k ≡ None) ⊎ (least_in A value n cells k t ≡ None)) → Improved A value n k Hit cells cells
+  improved_none L k Hit cells none =
+      record { hit = λ s t ls lt h. either_none L _ _ _ (none s t h); missed = λ s t ls lt h. refl; kept = kept_none n cells }
 
   -- two passes after each other are one, where the second neither writes nor reads what the first wrote
   pub improved_then : (k : ℕ) (H H' Both : ℕ → ℕ → Type 0) (first second third : List (Cell C)) → k < n →
@@ -178,43 +175,24 @@ module _ (A : Algebra) {C : Type 0} (value : C → A.Value) (n : ℕ) where
       split s t h (inl l) = inl (h.0, l, h.2, h.3, h.4)
       split s t h (inr l) = inr (l, h.1, h.2, h.3, h.4)
 
-  -- a cross and its next two cells, where the pivot is another format
-  pub cross_more : (k t low s : ℕ) (first second third fourth : List (Cell C)) → k < n → t < k → k < low → low ≤ s →
-      Improved A value n k (Cross t low s) first second → Improved A value n k (Block s (s + 1) t (t + 1)) second third → Improved A value n k (Block t (t + 1) s (s + 1)) third fourth →
-      Improved A value n k (Cross t low (s + 1)) first fourth
-  cross_more k t low s first second third fourth lk lt lo ls p q r =
-      improved_then k (Cross t low s) (Cross t s (s + 1)) (Cross t low (s + 1)) first second fourth lk split left right apart p
-      (improved_then k (Block s (s + 1) t (t + 1)) (Block t (t + 1) s (s + 1)) (Cross t s (s + 1)) second third fourth lk (λ a b h. h) (λ a b h. inl h) (λ a b h. inr h)
-      (λ a b h. (λ g. absurd (omega arith), λ g. absurd (omega arith), λ g. absurd (omega arith))) q r)
+  -- a row on both sides of its own format
+  pub block_beside : (k s c c' : ℕ) (first second third : List (Cell C)) → k < n → (s ≡ k → ⊥) → (c ≤ k → k < c' → ⊥) → c ≤ s → s < c' →
+      Improved A value n k (Block s (s + 1) c s) first second → Improved A value n k (Block s (s + 1) (s + 1) c') second third → Improved A value n k (Block s (s + 1) c c') first third
+  block_beside k s c c' first second third lk other columns ls ls' =
+      improved_then k (Block s (s + 1) c s) (Block s (s + 1) (s + 1) c') (Block s (s + 1) c c') first second third lk (λ a b h. split a b h (cases_lt b s))
+      (λ a b h. (h.0, h.1, h.2, omega arith, h.4)) (λ a b h. (h.0, h.1, omega arith, h.3, h.4))
+      (λ a b h. (λ g. absurd (omega arith), λ g. columns g.2 (omega arith), λ g. other (omega arith)))
     where
-      split : (a b : ℕ) → Cross t low (s + 1) a b → Cross t low s a b ⊎ Cross t s (s + 1) a b
-      split a b (inl h) = elim (cases_lt a s) [ inl l ↦ inl (inl (h.0, l, h.2, h.3, h.4)) | inr l ↦ inr (inl (l, h.1, h.2, h.3, h.4)) ]
-      split a b (inr h) = elim (cases_lt b s) [ inl l ↦ inl (inr (h.0, h.1, h.2, l, h.4)) | inr l ↦ inr (inr (h.0, h.1, l, h.3, h.4)) ]
+      split : (a b : ℕ) → Block s (s + 1) c c' a b → (b < s) ⊎ (s ≤ b) → Block s (s + 1) c s a b ⊎ Block s (s + 1) (s + 1) c' a b
+      split a b h (inl l) = inl (h.0, h.1, h.2, l, h.4)
+      split a b h (inr l) = inr (h.0, h.1, elim (cases_lt s b) [ inl d ↦ omega arith | inr d ↦ absurd (h.4 (omega arith)) ], h.3, h.4)
 
-      left : (a b : ℕ) → Cross t low s a b → Cross t low (s + 1) a b
-      left a b (inl h) = inl (h.0, omega arith, h.2, h.3, h.4)
-      left a b (inr h) = inr (h.0, h.1, h.2, omega arith, h.4)
-
-      right : (a b : ℕ) → Cross t s (s + 1) a b → Cross t low (s + 1) a b
-      right a b (inl h) = inl (omega arith, h.1, h.2, h.3, h.4)
-      right a b (inr h) = inr (h.0, h.1, omega arith, h.3, h.4)
-
-      apart : (a b : ℕ) → Cross t s (s + 1) a b → (Cross t low s a b → ⊥) × (Cross t low s a k → ⊥) × (Cross t low s k b → ⊥)
-      apart a b h = (no h, row, column)
-        where
-          no : Cross t s (s + 1) a b → Cross t low s a b → ⊥
-          no (inl h) (inl g) = absurd (omega arith)
-          no (inl h) (inr g) = absurd (omega arith)
-          no (inr h) (inl g) = absurd (omega arith)
-          no (inr h) (inr g) = absurd (omega arith)
-
-          row : Cross t low s a k → ⊥
-          row (inl g) = absurd (omega arith)
-          row (inr g) = absurd (omega arith)
-
-          column : Cross t low s k b → ⊥
-          column (inl g) = absurd (omega arith)
-          column (inr g) = absurd (omega arith)
+  -- the column of t and its row, where the pivot and t are outside of the other formats
+  pub cross_both : (k t low high : ℕ) (first second third : List (Cell C)) → k < n → t < k → k < low →
+      Improved A value n k (Block low high t (t + 1)) first second → Improved A value n k (Block t (t + 1) low high) second third → Improved A value n k (Cross t low high) first third
+  cross_both k t low high first second third lk lt lo =
+      improved_then k (Block low high t (t + 1)) (Block t (t + 1) low high) (Cross t low high) first second third lk (λ a b h. h) (λ a b h. inl h) (λ a b h. inr h)
+      (λ a b h. (λ g. absurd (omega arith), λ g. absurd (omega arith), λ g. absurd (omega arith)))
 
 -- y is held for the combination of the costs p and q: it is exact, so what is told by it is told by them
 module _ {A : Algebra} (L : Lawful A) (p q : Option A.Value) (joinable : ∥ Joinable A p q ∥₁) (a b y : A.Value) (ep : p ≡ Some a) (eq : q ≡ Some b)

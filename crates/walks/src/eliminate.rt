@@ -1,7 +1,7 @@
 // Three stages that bring a table of cells, each with its card's cost, to least costs.
 // The stages take the slice and n beside it, as their callers hold them, and make a pivot of both for each format.
 // They go over formats by `for` and range: a format is its number, and where its cells lie is computed from it.
-ghost use Rattle.std.specs.Prelude.{◌≡◌, ℕ, ◌+◌, ◌*◌, ◌<◌, ◌≤◌, true, false, Decides, ◌≢◌};
+ghost use Rattle.std.specs.Prelude.{◌≡◌, ℕ, ◌+◌, ◌*◌, ◌<◌, ◌≤◌, true, false, Decides, Some, ◌≢◌};
 ghost use Rattle.std.specs.Option.{option_map};
 ghost use Rattle.walks.specs.Walk.{LeastOf};
 ghost use Rattle.walks.specs.Theorems.{Either};
@@ -12,14 +12,11 @@ use crate::Cell;
 use crate::cells::cell_at;
 use costs::Cost;
 
-// The better of a held cost and the combination of two, where both are there.
-fn better<C: Cost>(held: Option<C>, first: Option<C>, second: Option<C>) -> Option<C>
-    requires { ∥ Joinable C.Cost.algebra (option_map C.Cost.value first) (option_map C.Cost.value second) ∥₁ }
-    ensures { LeastOf C.Cost.algebra (Either C.Cost.algebra (option_map C.Cost.value held) (option_map C.Cost.value first) (option_map C.Cost.value second)) (option_map C.Cost.value result) }
+// The better of a held cost, if one is there, and the combination of two.
+fn better<C: Cost>(held: Option<C>, one: C, two: C) -> Option<C>
+    requires { ∥ Joinable C.Cost.algebra (Some (C.Cost.value one)) (Some (C.Cost.value two)) ∥₁ }
+    ensures { LeastOf C.Cost.algebra (Either C.Cost.algebra (option_map C.Cost.value held) (Some (C.Cost.value one)) (Some (C.Cost.value two))) (option_map C.Cost.value result) }
 {
-    let (Some(one), Some(two)) = (first, second) else {
-        return held;
-    };
     let sum = one.join(two);
     match held {
         Some(cost) if !sum.undercuts(cost) => Some(cost),
@@ -59,43 +56,68 @@ impl<C: Cost> Pivot<'_, C> {
         cell_at(self.cells, self.n, s, t).least
     }
 
-    // One cell by way of the pivot. `first` is the cost from its row's format to the pivot, which is read once for a whole row.
-    fn improve(&mut self, first: Option<C>, s: usize, t: usize)
+    // One cell by way of the pivot, with the costs from its row's format to the pivot and from the pivot to its column's.
+    fn improve(&mut self, first: Option<C>, second: Option<C>, s: usize, t: usize)
         requires first { option_map C.Cost.value first ≡ least_in C.Cost.algebra C.Cost.value self.old.n self.old.cells.now s self.old.at }
+        requires second { option_map C.Cost.value second ≡ least_in C.Cost.algebra C.Cost.value self.old.n self.old.cells.now self.old.at t }
         requires row { (s < self.old.n) × (s ≢ self.old.at) }
         requires column { (t < self.old.n) × (t ≢ self.old.at) }
         requires apart { s ≢ t }
         ensures { Passed (Block s (s + 1) t (t + 1)) self.old self.new }
     {
-        // Lent once more first: the checker covers no slice in a field behind a `&mut` that is lent as `&`.
+        let (Some(one), Some(two)) = (first, second) else {
+            return;
+        };
+        // Lent once more first: the checker covers no element of a slice in a field behind a `&mut`.
         let cells = &mut *self.cells;
-        let second = cell_at(cells, self.n, self.at, t).least;
         let cell = &mut cells[s * self.n + t];
-        cell.least = better(cell.least, first, second);
+        cell.least = better(cell.least, one, two);
     }
 
-    // Every cell of `s` and a format from `low` to `high`, by way of the pivot.
+    // Every cell of `s` and a format from `low` to `high`, by way of the pivot. `s` and the pivot are outside of them.
     fn pass_row(&mut self, s: usize, low: usize, high: usize)
-        requires row { (s < self.old.n) × (s ≢ self.old.at) }
+        requires row { (s < self.old.n) × (s ≢ self.old.at) × ((low ≤ s) → (s < high) → ⊥) }
         requires columns { (low ≤ high) × (high ≤ self.old.n) × ((low ≤ self.old.at) → (self.old.at < high) → ⊥) }
         ensures { Passed (Block s (s + 1) low high) self.old self.new }
     {
         let at = self.at;
         let first = self.least(s, at);
+        if first.is_none() {
+            return;
+        }
         for t in low..high {
-            if t != s {
-                self.improve(first, s, t);
-            }
+            let second = self.least(at, t);
+            self.improve(first, second, s, t);
+        }
+    }
+
+    // Every cell of a format from `low` to `high` and `t`, by way of the pivot. `t` and the pivot are outside of them.
+    fn pass_column(&mut self, t: usize, low: usize, high: usize)
+        requires column { (t < self.old.n) × (t ≢ self.old.at) × ((low ≤ t) → (t < high) → ⊥) }
+        requires rows { (low ≤ high) × (high ≤ self.old.n) × ((low ≤ self.old.at) → (self.old.at < high) → ⊥) }
+        ensures { Passed (Block low high t (t + 1)) self.old self.new }
+    {
+        let at = self.at;
+        let second = self.least(at, t);
+        if second.is_none() {
+            return;
+        }
+        for s in low..high {
+            let first = self.least(s, at);
+            self.improve(first, second, s, t);
         }
     }
 
     // Every cell of two formats from `low` to `high`, by way of the pivot, which is outside of them.
+    // Inlined, so that its loops keep the pivot in registers.
+    #[inline(always)]
     fn pass(&mut self, low: usize, high: usize)
         requires square { (low ≤ high) × (high ≤ self.old.n) × ((low ≤ self.old.at) → (self.old.at < high) → ⊥) }
         ensures { Passed (Block low high low high) self.old self.new }
     {
         for s in low..high {
-            self.pass_row(s, low, high);
+            self.pass_row(s, low, s);
+            self.pass_row(s, s + 1, high);
         }
     }
 
@@ -104,13 +126,10 @@ impl<C: Cost> Pivot<'_, C> {
         requires lower { t < self.old.at }
         ensures { Passed (Cross t (self.old.at + 1) self.old.n) self.old self.new }
     {
-        let at = self.at;
-        let first = self.least(t, at);
-        for s in at + 1..self.n {
-            let to_pivot = self.least(s, at);
-            self.improve(to_pivot, s, t);
-            self.improve(first, t, s);
-        }
+        let n = self.n;
+        let above = self.at + 1;
+        self.pass_column(t, above, n);
+        self.pass_row(t, above, n);
     }
 
     // Whether the costs from the pivot to `k` and back undercut the unit.
