@@ -54,6 +54,14 @@ module _ (n : ℕ) (ticked : List Bool) (joined : List ℕ) (lined : Lined n tic
           let (j, b, e) = lined.all x (sym (get_or-set_other ticked v x true false ne) ∙ k) in
           (j, omega (arith, length-append joined (v ∷ [])), get_or_append_left joined (v ∷ []) 0 j b ∙ e)
 
+-- a queue with n formats has all of them
+lined_all : (n : ℕ) (ticked : List Bool) (joined : List ℕ) → Lined n ticked joined → length joined ≡ n → (v : ℕ) → v < n → get_or ticked v false ≡ true
+lined_all n ticked joined lined full v l = go (cases_Bool (get_or ticked v false))
+  where
+    go : (get_or ticked v false ≡ true) ⊎ (get_or ticked v false ≡ false) → get_or ticked v false ≡ true
+    go (inl i) = i
+    go (inr free) = absurd (omega (arith, lined_room n ticked joined lined v l free))
+
 still_ticked : (ticked : List Bool) (v x : ℕ) → v < length ticked → get_or ticked x false ≡ true → get_or (set ticked v true) x false ≡ true
 still_ticked ticked v x l e = go (cases_eq x v)
   where
@@ -168,6 +176,10 @@ module _ {A : Algebra} (L : Lawful A) {C : Type 0} (value : C → A.Value) (n : 
         let (k, b, e) = g.lined.all w i in
         done k b v l (subst (TightIn A value n cells goal v) (sym e) tight);
   }
+
+  -- with every format in the tree, none is outside
+  pub growing_all : (ticked : List Bool) (next joined : List ℕ) → Growing A value n cells goal ticked next joined → length joined ≡ n → Full A value n cells goal ticked next
+  growing_all ticked next joined g full = record { grown = g.grown; rooted = g.rooted; ended = λ v w l m i tight. lined_all n ticked joined g.lined full v l }
 
 module _ {A : Algebra} (L : Lawful A) {C : Type 0} (value : C → A.Value) (n : ℕ) (cells : List (Cell C)) (goal : ℕ) (ready : Ready A value n cells goal) where
   pub full_traced : (ticked : List Bool) (next : List ℕ) → Full A value n cells goal ticked next → (v : ℕ) → v < n → (v ≡ goal → ⊥) → Traced A value n cells goal next v

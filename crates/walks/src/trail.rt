@@ -1,5 +1,5 @@
 // Chains of least cost to a goal, read from a table of least costs.
-ghost use Rattle.std.specs.Prelude.{◌≡◌, ℕ, ◌+◌, ◌<◌, ◌≤◌, true, false, [], ◌∷◌, ◌++◌, length, MatchOption, Decides, ◌≢◌, slice_index, slice_index_or, slice_set};
+ghost use Rattle.std.specs.Prelude.{◌≡◌, ℕ, Some, ◌==◌, ◌+◌, ◌<◌, ◌≤◌, true, false, [], ◌∷◌, ◌++◌, length, MatchOption, Decides, ◌≢◌, slice_index, slice_index_or, slice_set};
 ghost use Rattle.std.specs.Option.{option_map};
 ghost use Rattle.walks.specs.Cells.{Laid, cards_in, least_in};
 ghost use Rattle.walks.specs.Walk.{Gains, Least};
@@ -82,6 +82,13 @@ impl Queue {
         self.joined += 1;
     }
 
+    // Whether `n` formats joined.
+    fn has_all(&self, n: usize) -> bool
+        ensures { result ≡ (length self.now.joined == n) }
+    {
+        self.joined == n
+    }
+
     // The next format that waits.
     fn pop(&mut self) -> Option<usize>
         ensures { MatchOption result ((length self.old.joined ≤ self.old.taken) × (self.new ≡ self.old)) (λ f. (self.old.taken < length self.old.joined) × (f ≡ slice_index self.old.joined self.old.taken) × (self.new ≡ record { joined = self.old.joined; taken = self.old.taken + 1 })) }
@@ -124,22 +131,20 @@ impl<C: Cost> Aim<'_, C> {
         }
     }
 
-    // Whether a card leads from `from` to `to` that is tight on the way to the goal: with the rest of the way from `to`, it costs
-    // just what is least from `from`.
-    fn tight(&self, from: usize, to: usize) -> bool
-        requires { (from < self.now.n) × (to < self.now.n) }
+    // Whether a card leads from `from` to `to` that is tight on the way to the goal: with `onward`, the rest of the way from `to`,
+    // it costs just what is least from `from`.
+    fn tight(&self, onward: C, from: usize, to: usize) -> bool
+        requires inside { (from < self.now.n) × (to < self.now.n) × (from ≢ to) }
+        requires onward { Some (C.Cost.value onward) ≡ rest_of self.now to }
         ensures { Decides result (TightBy self.now from to) }
     {
-        if from == to {
-            return false;
-        }
         let Some(card) = cell_at(self.cells, self.n, from, to).card else {
             return false;
         };
-        match (self.rest(to), self.rest(from)) {
-            (Some(onward), Some(whole)) => same(card.join(onward), whole),
-            _ => false,
-        }
+        let Some(whole) = self.rest(from) else {
+            return false;
+        };
+        same(card.join(onward), whole)
     }
 
     // Each format with a tight card to `to`, which is in the tree, joins the tree and the queue. A format is its number, so the
@@ -160,8 +165,11 @@ impl<C: Cost> Aim<'_, C> {
         ensures scanned { ScannedBy self.now ticks.new.sheet.now to }
         ensures same { ticks.new.sheet.ghost_name ≡ ticks.old.sheet.ghost_name }
     {
+        let Some(onward) = self.rest(to) else {
+            return;
+        };
         for from in 0..self.n {
-            if !ticks.has(from) && self.tight(from, to) {
+            if !ticks.has(from) && self.tight(onward, from, to) {
                 ticks.tick(from);
                 next[from] = to;
                 queue.push(from);
@@ -180,6 +188,9 @@ impl<C: Cost> Aim<'_, C> {
         let mut queue = Queue::new(self.goal);
         while let Some(to) = queue.pop() {
             self.scan(to, ticks, next, &mut queue);
+            if queue.has_all(self.n) {
+                break;
+            }
         }
     }
 }

@@ -1,6 +1,7 @@
 -- Each format that is taken out of the queue is scanned, and the tree is grown when all of them are.
-use Rattle.std.proofs.Common.{◌≡◌, ◌+◌, refl, ap, ◌∙◌, arith}
-use Rattle.walks.proofs.Growth.{growing_start, growing_few, growing_at, queue_more, growing_full}
+use Rattle.std.proofs.Common.{◌≡◌, ◌+◌, sym, refl, ap, ◌∙◌, arith}
+use Rattle.std.proofs.lemmas.Bool.{eqb-true}
+use Rattle.walks.proofs.Growth.{growing_start, growing_few, growing_at, queue_more, growing_full, growing_all}
 use Rattle.walks.proofs.trail.Aim.grow.Goals as goal
 
 pub loop-to-init : goal.loop-to-init
@@ -34,11 +35,13 @@ loop-to-smaller g c =
     let taken : c.scan.new.queue.taken ≡ c.loop-to.queue.taken + 1 = c.scan.ensures.taken ∙ ap (λ q. q.taken) on in
     omega arith
 
-pub returns : goal.returns
-returns g c =
+pub returns-in_default-clause-full : goal.returns-in_default-clause-full
+returns-in_default-clause-full g c =
     let (growing, few, done, same) = c.loop-to.invariant in
     let end = c.in_default.ensures.0 in
-    record {
-      full = growing_full g.met.C.Cost.lawful g.C.Cost.value _ _ _ c.args.self.now.ready _ _ _ growing (λ k l. done k (omega arith));
-      same = same ∙ c.tick.ensures.same;
-    }
+    growing_full g.met.C.Cost.lawful g.C.Cost.value _ _ _ c.args.self.now.ready _ _ _ growing (λ k l. done k (omega arith))
+
+pub returns-then-has_all-clause-full : goal.returns-then-has_all-clause-full
+returns-then-has_all-clause-full g c =
+    growing_all g.met.C.Cost.lawful g.C.Cost.value _ _ _ c.args.self.now.ready _ _ _ c.scan.ensures.growing
+    (eqb-true _ _ (sym c.has_all.ensures ∙ c.if-has_all.true))
