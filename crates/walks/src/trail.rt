@@ -119,29 +119,29 @@ struct Aim<'a, C: Cost> {
 impl<C: Cost> Aim<'_, C> {
     ghost use Rattle.walks.specs.Aims.{FullBy, GrowingBy, ScannedBy, TightBy, rest_of};
 
-    // The least cost from `from` to the goal, the unit at the goal itself.
-    fn rest(&self, from: usize) -> Option<C>
-        requires { from < self.now.n }
-        ensures { option_map C.Cost.value result ≡ rest_of self.now from }
+    // The least cost from `to` to the goal, the unit at the goal itself.
+    fn rest(&self, to: usize) -> Option<C>
+        requires { to < self.now.n }
+        ensures { option_map C.Cost.value result ≡ rest_of self.now to }
     {
-        if from == self.goal {
+        if to == self.goal {
             Some(C::unit())
         } else {
-            cell_at(self.cells, self.n, from, self.goal).least
+            cell_at(self.cells, self.n, to, self.goal).least
         }
     }
 
     // Whether a card leads from `from` to `to` that is tight on the way to the goal: with `onward`, the rest of the way from `to`,
     // it costs just what is least from `from`.
     fn tight(&self, onward: C, from: usize, to: usize) -> bool
-        requires inside { (from < self.now.n) × (to < self.now.n) × (from ≢ to) }
+        requires inside { (from < self.now.n) × (to < self.now.n) × (from ≢ to) × (from ≢ self.now.goal) }
         requires onward { Some (C.Cost.value onward) ≡ rest_of self.now to }
         ensures { Decides result (TightBy self.now from to) }
     {
         let Some(card) = cell_at(self.cells, self.n, from, to).card else {
             return false;
         };
-        let Some(whole) = self.rest(from) else {
+        let Some(whole) = cell_at(self.cells, self.n, from, self.goal).least else {
             return false;
         };
         same(card.join(onward), whole)
