@@ -131,8 +131,8 @@ impl<C: Cost> Aim<'_, C> {
         }
     }
 
-    // Whether a card leads from `from` to `to` that is tight on the way to the goal: with `onward`, the rest of the way from `to`,
-    // it costs just what is least from `from`.
+    // Whether a card leads from `from` to `to` that is tight on the way to the goal: with `onward`, the rest of the way from
+    // `to`, it costs just what is least from `from`.
     fn tight(&self, onward: C, from: usize, to: usize) -> bool
         requires inside { (from < self.now.n) × (to < self.now.n) × (from ≢ to) × (from ≢ self.now.goal) }
         requires onward { Some (C.Cost.value onward) ≡ rest_of self.now to }
@@ -177,7 +177,8 @@ impl<C: Cost> Aim<'_, C> {
         }
     }
 
-    // Grows the tree of tight cards backwards from the goal, breadth first: each format that joins is scanned once.
+    // Grows the tree of tight cards backwards from the goal, breadth first: each format that joins is scanned once, until
+    // all have joined.
     fn grow(&self, ticks: &mut Ticks, next: &mut [usize; MOST_FORMATS])
         requires clear { Clear ticks.old.sheet.now }
         requires long { length ticks.old.sheet.now ≡ 64 }
