@@ -25,9 +25,10 @@ impl Cost for Delay {
         Delay { lines: 0 }
     }
 
+    // Beyond what 32 bits hold, where any cost will do, the sum wraps: to clip it would take most of the time of a route.
     fn join(self, other: Delay) -> Delay {
         Delay {
-            lines: self.lines.saturating_add(other.lines),
+            lines: self.lines.wrapping_add(other.lines),
         }
     }
 
