@@ -21,10 +21,14 @@ import tempfile
 from collections import Counter
 from collections.abc import Callable
 from dataclasses import dataclass
+from pathlib import Path
 from random import Random
 from typing import BinaryIO
 
 from model import LARGEST_DELAY, LARGEST_DEPTH, LONGEST, MOST_CARDS, MOST_LEGS, Pair, check_answer, ticket_text
+
+ROOT = Path(__file__).resolve().parent.parent
+PROGRAM = ROOT / "crates/route/out/route"
 
 SECONDS = 20
 Entry = tuple[int, int, int]
@@ -462,9 +466,16 @@ def check_all(program: str, seed: int, indices: range) -> int:
     return 0
 
 
+def build() -> None:
+    """Proves and builds the program, and runs it once."""
+    print("the program is proved and built first, which takes some minutes", file=sys.stderr)
+    with (ROOT / "tickets/sample.ticket").open("rb") as ticket:
+        subprocess.run(["rt", "run"], cwd=ROOT / "crates/route", stdin=ticket, stdout=subprocess.DEVNULL, check=True)
+
+
 def main() -> int:
     parser = argparse.ArgumentParser(description="Runs the program on generated tickets and checks every answer.")
-    parser.add_argument("--program", default="crates/route/out/route")
+    parser.add_argument("--program", default=str(PROGRAM))
     parser.add_argument("--count", type=int, default=5000, help="how many tickets")
     parser.add_argument("--seed", type=int, default=1)
     parser.add_argument("--only", type=int, metavar="INDEX", help="one ticket")
@@ -475,6 +486,8 @@ def main() -> int:
             parser.error("--print needs --only")
         sys.stdout.buffer.write(make_ticket(given.seed, given.only))
         return 0
+    if given.program == str(PROGRAM) and not PROGRAM.exists():
+        build()
     if not os.access(given.program, os.X_OK):
         parser.error(f"no program {given.program}")
     indices = range(given.count) if given.only is None else range(given.only, given.only + 1)
