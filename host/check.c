@@ -1,0 +1,248 @@
+/* Calls the routes of the library with many small sets of cards and legs, sound and unsound, and compares what it is told with an
+ * implementation of the same rules that shares no code: rounds of relaxation over all cards. Prints how many calls there were. */
+#include "hurzelma.h"
+
+#include <stdbool.h>
+#include <stdio.h>
+#include <stdlib.h>
+#include <string.h>
+
+enum { CALLS = 50000, MOST = 66, LEGS = 34, CARDS = MOST * MOST, BYTES = LEGS * HURZELMA_ROW };
+
+/* What a call is handed, as numbers of either kind. */
+struct job {
+    bool depth;
+    size_t n, cards_length, legs_length, costs_length, chains_length;
+    int32_t cards[CARDS];
+    struct hurzelma_leg legs[LEGS];
+};
+
+/* What it left. */
+struct left {
+    int32_t costs[LEGS];
+    uint8_t chains[BYTES];
+};
+
+static uint64_t state = 1;
+
+/* A number from low to high. */
+static int64_t draw(int64_t low, int64_t high) {
+    state ^= state << 13;
+    state ^= state >> 7;
+    state ^= state << 17;
+    return low + (int64_t)(state % (uint64_t)(high - low + 1));
+}
+
+static bool chance(int of) {
+    return draw(1, of) == 1;
+}
+
+/* The rules. */
+
+static bool stands(const struct job *job, size_t s, size_t t) {
+    int64_t cost = job->cards[s * job->n + t];
+    return s != t && (job->depth ? 1 <= cost && cost <= 16 : -1000000 <= cost && cost <= 1000000);
+}
+
+static int64_t sum(const struct job *job, int64_t a, int64_t b) {
+    return job->depth ? (a < b ? a : b) : a + b;
+}
+
+static bool better(const struct job *job, int64_t a, int64_t b) {
+    return job->depth ? a > b : a < b;
+}
+
+static int64_t unit(const struct job *job) {
+    return job->depth ? 255 : 0;
+}
+
+static uint32_t fault(uint32_t layer, uint32_t number, uint32_t part) {
+    return layer << 16 | number << 8 | part;
+}
+
+/* What is refused before a card is looked at. */
+static uint32_t early(const struct job *job) {
+    size_t n = job->n;
+    if (n < 2 || n > 64) return fault(3, 16, 0);
+    if (job->cards_length < n * n) return fault(3, 16, 1);
+    for (size_t k = 0; k < job->legs_length; k++) {
+        struct hurzelma_leg leg = job->legs[k];
+        if (leg.from >= n) return fault(2, 11, 0);
+        if (leg.to >= n) return fault(2, 11, 1);
+        if (leg.from == leg.to) return fault(2, 12, 1);
+        if (k >= 32) return fault(2, 24, 0);
+    }
+    if (job->legs_length == 0) return fault(2, 25, 0);
+    if (job->costs_length < job->legs_length) return fault(2, 15, 1);
+    if (job->chains_length < HURZELMA_ROW * job->legs_length) return fault(2, 15, 2);
+    return 0;
+}
+
+/* The best costs from every format to one, and whether a walk leads there; false where they do not settle. */
+static bool relax(const struct job *job, size_t goal, int64_t *best, bool *leads) {
+    memset(leads, 0, job->n * sizeof *leads);
+    best[goal] = unit(job);
+    leads[goal] = true;
+    for (size_t round = 0; round <= job->n; round++) {
+        bool changed = false;
+        for (size_t s = 0; s < job->n; s++) {
+            for (size_t t = 0; t < job->n; t++) {
+                if (!leads[t] || !stands(job, s, t)) continue;
+                int64_t cost = sum(job, job->cards[s * job->n + t], best[t]);
+                if (leads[s] && !better(job, cost, best[s])) continue;
+                best[s] = cost;
+                leads[s] = true;
+                changed = true;
+            }
+        }
+        if (!changed) return true;
+    }
+    return false;
+}
+
+static bool gains(const struct job *job) {
+    int64_t best[MOST];
+    bool leads[MOST];
+    for (size_t goal = 0; goal < job->n; goal++) {
+        if (!relax(job, goal, best, leads)) return true;
+    }
+    return false;
+}
+
+/* Whether a row holds so many formats of a walk over standing cards, and 255 behind them; then the walk's cost. */
+static bool is_walk(const struct job *job, const uint8_t *row, int64_t *cost) {
+    size_t count = row[0];
+    if (count < 2 || count > 65) return false;
+    *cost = unit(job);
+    for (size_t i = 1; i < HURZELMA_ROW; i++) {
+        if (i > count ? row[i] != 255 : row[i] >= job->n) return false;
+        if (i < 2 || i > count) continue;
+        if (!stands(job, row[i - 1], row[i])) return false;
+        *cost = sum(job, *cost, job->cards[row[i - 1] * job->n + row[i]]);
+    }
+    return true;
+}
+
+/* Whether no format comes twice among some. */
+static bool all_differ(const uint8_t *formats, size_t count) {
+    bool met[256] = {false};
+    for (size_t i = 0; i < count; i++) {
+        if (met[formats[i]]) return false;
+        met[formats[i]] = true;
+    }
+    return true;
+}
+
+static bool is_loop(const struct job *job, const uint8_t *row) {
+    int64_t cost;
+    return is_walk(job, row, &cost) && row[1] == row[row[0]] && all_differ(row + 1, row[0] - 1u) && better(job, cost, unit(job));
+}
+
+/* Whether a leg's row and cost are right. */
+static bool is_served(const struct job *job, struct hurzelma_leg leg, const uint8_t *row, int64_t told) {
+    int64_t best[MOST], cost;
+    bool leads[MOST];
+    if (!relax(job, leg.to, best, leads)) return false;
+    if (!leads[leg.from]) {
+        for (size_t i = 1; i < HURZELMA_ROW; i++) {
+            if (row[i] != 255) return false;
+        }
+        return row[0] == 0 && told == unit(job);
+    }
+    return is_walk(job, row, &cost) && all_differ(row + 1, row[0]) && row[1] == leg.from && row[row[0]] == leg.to && cost == told && told == best[leg.from];
+}
+
+/* Whether two chains to one format go on alike from where they meet. */
+static bool agree(const uint8_t *one, const uint8_t *other) {
+    if (one[0] == 0 || other[0] == 0 || one[one[0]] != other[other[0]]) return true;
+    for (size_t i = 1; i <= one[0]; i++) {
+        for (size_t j = 1; j <= other[0]; j++) {
+            if (one[i] != other[j]) continue;
+            size_t more = one[0] - i;
+            if (more != other[0] - j || memcmp(one + i, other + j, more + 1) != 0) return false;
+        }
+    }
+    return true;
+}
+
+/* Whether all is right that a call told and left. */
+static bool is_right(const struct job *job, uint32_t told, const struct left *before, const struct left *after) {
+    uint32_t cause = early(job);
+    if (cause != 0) return told == cause && memcmp(before, after, sizeof *before) == 0;
+    size_t legs = job->legs_length, rows = HURZELMA_ROW * legs;
+    if (gains(job)) {
+        return told == fault(2, 26, 0) && is_loop(job, after->chains) && memcmp(before->costs, after->costs, sizeof before->costs) == 0 &&
+               memcmp(before->chains + HURZELMA_ROW, after->chains + HURZELMA_ROW, BYTES - HURZELMA_ROW) == 0;
+    }
+    for (size_t k = 0; k < legs; k++) {
+        if (!is_served(job, job->legs[k], after->chains + HURZELMA_ROW * k, after->costs[k])) return false;
+        for (size_t j = 0; j < k; j++) {
+            if (!agree(after->chains + HURZELMA_ROW * j, after->chains + HURZELMA_ROW * k)) return false;
+        }
+    }
+    return told == 0 && memcmp(before->costs + legs, after->costs + legs, (LEGS - legs) * sizeof before->costs[0]) == 0 &&
+           memcmp(before->chains + rows, after->chains + rows, BYTES - rows) == 0;
+}
+
+/* The calls. */
+
+static int32_t draw_cost(const struct job *job, int64_t low) {
+    if (chance(60)) return job->depth ? (int32_t)draw(0, 1) * 17 : (int32_t)draw(0, 1) * 2000002 - 1000001;
+    if (chance(200)) return job->depth ? 16 : (int32_t)draw(0, 1) * 2000000 - 1000000;
+    return job->depth ? (int32_t)draw(1, 16) : (int32_t)draw(low, 9);
+}
+
+static void draw_job(struct job *job) {
+    static const size_t odd_sizes[] = {0, 1, 65, 66, 64};
+    job->depth = chance(2);
+    job->n = chance(40) ? odd_sizes[draw(0, 4)] : (size_t)(chance(200) ? draw(20, 40) : draw(2, 7));
+    job->cards_length = job->n * job->n - (size_t)(job->n > 0 && chance(40));
+    int64_t low = draw(-3, 1), of = draw(1, 5);
+    for (size_t i = 0; i < job->n * job->n; i++) {
+        job->cards[i] = chance((int)of) ? draw_cost(job, low) : job->depth ? HURZELMA_NO_DEPTH : HURZELMA_NO_DELAY;
+    }
+    job->legs_length = (size_t)(chance(30) ? draw(31, 34) : draw(0, 5));
+    for (size_t k = 0; k < job->legs_length; k++) {
+        size_t last = job->n < 2 ? 1 : job->n - 1;
+        job->legs[k].from = chance(300) ? SIZE_MAX : (size_t)draw(0, (int64_t)last);
+        job->legs[k].to = chance(300) ? job->n : (job->legs[k].from + (size_t)draw(1, (int64_t)last)) % (last + 1);
+        if (chance(300)) job->legs[k].to = job->legs[k].from;
+    }
+    job->costs_length = LEGS;
+    job->chains_length = BYTES;
+    if (job->legs_length > 0 && chance(30)) job->costs_length = job->legs_length - 1;
+    if (job->legs_length > 0 && chance(30)) job->chains_length = HURZELMA_ROW * job->legs_length - 1;
+}
+
+static uint32_t call(const struct job *job, struct left *left) {
+    if (!job->depth) {
+        return hurzelma_route_delay(job->n, job->cards, job->cards_length, job->legs, job->legs_length, left->costs, job->costs_length, left->chains, job->chains_length);
+    }
+    uint8_t cards[CARDS], costs[LEGS];
+    for (size_t i = 0; i < job->n * job->n; i++) cards[i] = (uint8_t)job->cards[i];
+    for (size_t k = 0; k < LEGS; k++) costs[k] = (uint8_t)left->costs[k];
+    uint32_t told = hurzelma_route_depth(job->n, cards, job->cards_length, job->legs, job->legs_length, costs, job->costs_length, left->chains, job->chains_length);
+    for (size_t k = 0; k < LEGS; k++) left->costs[k] = costs[k];
+    return told;
+}
+
+int main(void) {
+    static struct job job;
+    unsigned granted = 0, loops = 0;
+    for (unsigned i = 0; i < CALLS; i++) {
+        struct left before, after;
+        draw_job(&job);
+        for (size_t k = 0; k < LEGS; k++) before.costs[k] = (int32_t)draw(0, 255);
+        for (size_t k = 0; k < BYTES; k++) before.chains[k] = (uint8_t)draw(0, 255);
+        after = before;
+        uint32_t told = call(&job, &after);
+        if (!is_right(&job, told, &before, &after)) {
+            printf("call %u of %zu formats is wrong: it was told %u\n", i, job.n, told);
+            return 1;
+        }
+        granted += told == 0;
+        loops += HURZELMA_NUMBER(told) == 26;
+    }
+    printf("%d calls told rightly: %u granted, %u loops\n", CALLS, granted, loops);
+    return 0;
+}
