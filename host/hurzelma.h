@@ -1,14 +1,14 @@
 /* Hurzelma for hosts in C: routes of converter chains, and answers to tickets.
  *
- * No function allocates, keeps anything from one call to the next, or reads or writes anything but what it is given. Each works in
- * at most HURZELMA_STACK bytes of the calling thread's stack, and may be called by several threads at once, each with its own memory.
+ * No function allocates, keeps anything from one call to the next, or reads or writes anything but what it is given. Each works
+ * in at most HURZELMA_STACK bytes of the calling thread's stack, and may be called by several threads at once, each with its own
+ * memory.
  *
- * No pointer may be null, also where its length is 0, and what is written may not overlap anything else that is handed in. A length
- * counts elements. */
+ * No pointer may be null, also where its length is 0, and what is written may not overlap anything else that is handed in. A
+ * length counts elements. */
 #ifndef HURZELMA_H
 #define HURZELMA_H
 
-#include <limits.h>
 #include <stddef.h>
 #include <stdint.h>
 
@@ -20,7 +20,8 @@ extern "C" {
 #define HURZELMA_MOST_FORMATS 64
 #define HURZELMA_MOST_LEGS 32
 
-/* A row of a chain sheet: the number of formats in the chain, then the formats, then 255 to its end. */
+/* A row of a chain sheet: the number of formats in the chain, then the formats, a byte each, then 255 to its end. A chain begins
+ * with its leg's first format and ends with its last. */
 #define HURZELMA_ROW 66
 
 /* Numbers that are no card: a delay, and a depth. */
@@ -43,27 +44,29 @@ struct hurzelma_leg {
 #define HURZELMA_BAY 2
 #define HURZELMA_REGISTER 3
 
-/* Why, and the part of the call that is meant:
+/* Why, and the part of the call that is meant; which leg is refused is not told:
  *   register 16: the number of formats (part 0), or fewer than n * n cards (1)
  *   bay 11: a leg's first (0) or last (1) format is not below n
  *   bay 12: a leg's formats are equal (part 1)
- *   bay 15: the cost sheet (1) has fewer entries than there are legs, or the chain sheet (2) fewer bytes than rows for them
+ *   bay 15: the cost sheet (1) has fewer entries than there are legs, or the chain sheet (2) fewer bytes than their rows
  *   bay 24: more than 32 legs
  *   bay 25: no legs
- *   bay 26: a loop of cards undercuts the unit; row 0 then holds such a loop, and its first format again */
+ *   bay 26: a loop of cards undercuts the unit, which is 0 lines or 255 bits; row 0 then holds such a loop. Its first format comes
+ *           again at its end and counts twice, so the number is up to 65 */
 #define HURZELMA_NUMBER(told) (((told) >> 8) & 255u)
 #define HURZELMA_PART(told) ((told) & 255u)
 
 /* Finds a chain of least cost for every leg over the cards of n formats.
  *
  * cards: n * n numbers, row by row: that of the card from format s to format t stands at s * n + t. A number that no card may have
- * is no card, and so is every number from a format to itself. A delay is -1000000 to 1000000 lines, with the smaller one better and
- * delays added along a chain; a depth is 1 to 16 bits, with the larger one better and a chain keeping the smallest of its cards.
+ * is no card, and so is every number from a format to itself. A delay is -1000000 to 1000000 lines, with the smaller one better
+ * and delays added along a chain; a depth is 1 to 16 bits, with the larger one better and a chain keeping the smallest of its
+ * cards.
  *
- * Granted, entry k of costs is the cost of leg k's chain, and row k of chains holds the chain. Where no chain leads from its first
- * format to its last, the row has the number 0, and the cost is 0 for delay and 255 for depth. Entries and rows beyond the legs are
- * as they were. Refused, all is as it was, but for row 0 after 26. The causes are judged in this order: 16, for each leg 11, 12 and
- * 24, then 25, 15, 26. */
+ * Granted, entry k of costs is the cost of leg k's chain, and row k of chains holds the chain. Where no chain leads from its
+ * first format to its last, the row has the number 0, and the cost is 0 for delay and 255 for depth. Entries and rows beyond the
+ * legs are as they were. Refused, all is as it was, but for row 0 after 26. The causes are judged in this order: 16, for each leg
+ * 11, 12 and 24, then 25, 15, 26. */
 uint32_t hurzelma_route_delay(size_t n, const int32_t *cards, size_t cards_length,
                               const struct hurzelma_leg *legs, size_t legs_length,
                               int32_t *costs, size_t costs_length,
@@ -78,12 +81,17 @@ uint32_t hurzelma_route_depth(size_t n, const uint8_t *cards, size_t cards_lengt
 #define HURZELMA_WRITTEN 0u
 #define HURZELMA_PLACE_SHORT 1u
 
+/* A ticket may have so many bytes; a longer one is refused. */
+#define HURZELMA_TICKET 32768
+
 /* No answer to a ticket is as long. */
 #define HURZELMA_ANSWER 65536
 
-/* Writes the answer to a ticket, its listing or its refusal, from the start of the place, and its length into *length; the rest of
- * the place is as it was. A place that is too short is as it was, and *length is what the answer needs. Any bytes are answered. */
-uint32_t hurzelma_answer(const uint8_t *text, size_t text_length, uint8_t *place, size_t place_length, size_t *length);
+/* Writes the answer to a ticket, its listing or its refusal, from the start of the place, and its length into *length; the rest
+ * of the place is as it was. A place that is too short is as it was, and *length is what the answer needs. Any bytes are
+ * answered. docs/GRAMMAR.md says what a ticket looks like, and docs/RULES.md what its answer does. */
+uint32_t hurzelma_answer(const uint8_t *text, size_t text_length,
+                         uint8_t *place, size_t place_length, size_t *length);
 
 #ifdef __cplusplus
 }

@@ -164,7 +164,7 @@ module _ (A : Algebra) {C : Type 0} (value : C → A.Value) where
   EditAnswer p p' legs legs' call (Ok None) = (call ≡ Route) × (p' ≡ p) × (legs' ≡ legs)
   EditAnswer p p' legs legs' call (Err fault) = EditDone p p' legs legs' call (Refused fault)
 
-  -- a route was not made, for want of memory
+  -- a route was not made, for want of memory; that memory was wanting is not said, as a clause knows nothing of it
   pub record Unmade (p p' : Plain A.Value) (before now : Desk C) (call : Call C) : Type 0 where
     pub route : call ≡ Route
     pub plain_is : p' ≡ p

@@ -25,7 +25,7 @@ impl Cost for Delay {
         Delay { lines: 0 }
     }
 
-    // Beyond what 32 bits hold, where any cost will do, the sum wraps: to clip it would take most of the time of a route.
+    // Beyond what 32 bits hold, where any cost will do, the sum wraps: a test for it took a third of the instructions of a route.
     fn join(self, other: Delay) -> Delay {
         Delay {
             lines: self.lines.wrapping_add(other.lines),

@@ -56,7 +56,8 @@ module _ (A : Algebra) {C : Type 0} (value : C → A.Value) (n : ℕ) (cards : L
       pub answers : refused r ≡ Some cause
       pub same : after ≡ before
 
-    -- the legs are booked, and the route is that of a bay over the cards
+    -- The legs are booked, and the route is that of a bay over the cards. `booked` and `noted` are the bay's legs with their notes,
+    -- before and after; they end with the call.
     pub record RouteMade : Type 0 where
       pub no_cause : early ≡ None
       pub booked : List Leg

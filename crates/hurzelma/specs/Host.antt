@@ -30,7 +30,7 @@ told (Some c) = fault_number c
 abbrev pub sheets : {C : Type 0} → List (Cell C) → List C → List ℕ → Sheets C
 sheets table costs chains = record { table = table; costs = costs; chains = chains }
 
--- The route over the cards that are handed in, in a table that will do for n formats, if there can be so many.
+-- The route over the cards that are handed in, in some table that is long enough for n formats, where n is at most 64.
 pub record RouteTold (A : Algebra) {C : Type 0} (value : C → A.Value) (n : ℕ) (cards : List C) (legs : List Ends) (costs costs' : List C) (chains chains' : List ℕ) (r : ℕ) : Type 0 where
   pub table : List (Cell C)
   pub table' : List (Cell C)
@@ -39,7 +39,7 @@ pub record RouteTold (A : Algebra) {C : Type 0} (value : C → A.Value) (n : ℕ
   pub right : CardsAnswer A value n cards legs (sheets table costs chains) (sheets table' costs' chains') answer
   pub number : r ≡ told (refused answer)
 
--- 0 and the length of what was written; or 1 and the length that it needs
+-- what a ticket's call answers: 0, and the length that was written; or 1, and the length that is needed
 abbrev pub Status : Result ℕ PlaceShort → ℕ → ℕ → Type 0
 Status (Ok n) len r = (len ≡ n) × (r ≡ 0)
 Status (Err e) len r = (len ≡ e.needed) × (r ≡ 1)

@@ -1,4 +1,4 @@
-// The ticket: its text, read line by line.
+// The lines of a ticket: each is read, or refused at the byte.
 #![tactic(auto)]
 
 mod line;

@@ -7,6 +7,7 @@ use Rattle.costs.specs.declared.depth.Depth.{Depth}
 use Rattle.registers.specs.Text.{layer_text}
 use Rattle.registers.specs.declared.fault.Code.{Code}
 use Rattle.walks.specs.Sheet.{row_at}
+use Rattle.bay.specs.Legs.{most_legs}
 use Rattle.bay.specs.Routes.{no_ends}
 use Rattle.bay.specs.declared.legs.Ends.{Ends}
 use Rattle.lines.specs.declared.line.Kind.{Kind}
@@ -20,10 +21,6 @@ use Rattle.ticket.specs.declared.serve.Granted.{Granted}
 abbrev pub pieces : List (List ℕ) → List ℕ
 pieces [] = []
 pieces (text ∷ texts) = text ++ pieces texts
-
--- a ticket has at most so many legs
-abbrev pub most_legs : ℕ
-most_legs = 32
 
 -- the formats of row k, as many as its number says
 abbrev pub formats_of : List ℕ → ℕ → List ℕ

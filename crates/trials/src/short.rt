@@ -3,7 +3,8 @@ use costs::Delay;
 use ticket::{Ends, MOST_CODES, MOST_LEGS, Shared, Sheets, route_ticket};
 use walks::Cell;
 
-const TICKET: &[u8] = b"(bay delay 2)\n(format 0 UYVY)\n(format 1 v210)\n(card (0 1) 4)\n(leg (0 1))\n(leg (1 0))\n(end)\n";
+const TICKET: &[u8] =
+    b"(bay delay 2)\n(format 0 UYVY)\n(format 1 v210)\n(card (0 1) 4)\n(leg (0 1))\n(leg (1 0))\n(end)\n";
 
 // How much is lent.
 #[derive(Clone, Copy)]
@@ -58,8 +59,22 @@ fn answer_in(rt: &HostRuntime, what: &str, room: Room) -> anyhow::Result<()> {
 
 pub fn short_memory(rt: &HostRuntime) -> anyhow::Result<()> {
     answer_in(rt, "ticket with room", ENOUGH)?;
-    answer_in(rt, "an entry less", Room { entries: 511, ..ENOUGH })?;
+    answer_in(
+        rt,
+        "an entry less",
+        Room {
+            entries: 511,
+            ..ENOUGH
+        },
+    )?;
     answer_in(rt, "a cell less", Room { cells: 3, ..ENOUGH })?;
     answer_in(rt, "a cost less", Room { costs: 1, ..ENOUGH })?;
-    answer_in(rt, "a byte less", Room { bytes: 131, ..ENOUGH })
+    answer_in(
+        rt,
+        "a byte less",
+        Room {
+            bytes: 131,
+            ..ENOUGH
+        },
+    )
 }
