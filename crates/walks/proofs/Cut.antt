@@ -25,7 +25,7 @@ below_parts : (h : ℕ) (is js : List ℕ) → Below h (is ++ js) → Below h is
 below_parts h [] js b = (tt, b)
 below_parts h (i ∷ is) js b = let p = below_parts h is js b.1 in ((b.0, p.0), p.1)
 
-absent_parts : (f : ℕ) (is js : List ℕ) → Absent f (is ++ js) → Absent f is × Absent f js
+pub absent_parts : (f : ℕ) (is js : List ℕ) → Absent f (is ++ js) → Absent f is × Absent f js
 absent_parts f [] js a = (tt, a)
 absent_parts f (i ∷ is) js a = let p = absent_parts f is js a.1 in ((a.0, p.0), p.1)
 
@@ -53,7 +53,7 @@ bound : (ms : List ℕ) → (h : ℕ) × Below h ms
 bound [] = (0, tt)
 bound (m ∷ ms) = let b = bound ms in (max (suc m) b.0, (omega arith, below_mono b.0 (max (suc m) b.0) ms (omega arith) b.1))
 
-below_absent : (h : ℕ) (ks : List ℕ) → Below (suc h) ks → Absent h ks → Below h ks
+pub below_absent : (h : ℕ) (ks : List ℕ) → Below (suc h) ks → Absent h ks → Below h ks
 below_absent h [] b a = tt
 below_absent h (k ∷ ks) b a = (omega (arith, a.0, b.0), below_absent h ks b.1 a.1)
 
@@ -126,7 +126,7 @@ module _ {A : Algebra} (L : Lawful A) (card : ℕ → ℕ → Option A.Value) wh
         let v = runs_split L card s is t js t y (subst (λ l. Runs A card s l t y) g r) in
         (is, v.0, (absent_parts s is (t ∷ js) (subst (Absent s) g a)).0, p.1, p.0, v.2, drop_back L v.0 v.1 y y (closed_calm t js v.1 v.3) v.4 (at_most_self L y))
 
-    chain_of : (s : ℕ) (ms : List ℕ) (t : ℕ) (x : A.Value) → (s ≡ t → ⊥) → Runs A card s ms t x → (ks : List ℕ) × (z : A.Value) × Distinct (path s ks t) × Runs A card s ks t z × AtMost A z x
+    pub chain_of : (s : ℕ) (ms : List ℕ) (t : ℕ) (x : A.Value) → (s ≡ t → ⊥) → Runs A card s ms t x → (ks : List ℕ) × (z : A.Value) × Distinct (path s ks t) × Runs A card s ks t z × AtMost A z x
     chain_of s ms t x n r =
         let h = bound ms in
         let c = cut_runs h.0 (λ j l y w. closed_calm j w.0 y w.2) s ms t x h.1 r in

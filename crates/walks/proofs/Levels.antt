@@ -1,36 +1,31 @@
 -- How far the cells of a table have come: each has its least cost over inner formats below a level of its own.
 -- A pass by way of k lifts the cells that it writes from level k to the next; the cells that it reads are at level k.
-use Rattle.std.proofs.Common.{◌≡◌, ℕ, suc, ◌+◌, ◌-◌, ◌*◌, ◌<◌, ◌≤◌, min, max, ◌⊎◌, List, length, Option, sym, refl, subst, inl, inr, arith}
-use Rattle.std.proofs.lemmas.Bool.{cases_lt, cases_order}
+use Rattle.std.proofs.Common.{◌≡◌, ℕ, suc, ◌+◌, ◌-◌, ◌*◌, ◌<◌, ◌≤◌, min, ◌⊎◌, List, length, Option, sym, refl, ◌∙◌, subst, inl, inr, arith}
+use Rattle.std.proofs.lemmas.Bool.{cases_lt}
 use Rattle.costs.specs.Algebra.{Algebra, Lawful}
-use Rattle.walks.specs.Walk.{LeastOf, Least, LowLeast, LowWalkCosts, GainsAt}
+use Rattle.walks.specs.Walk.{Least, LowLeast, LowWalkCosts, GainsAt}
 use Rattle.walks.specs.Theorems.{Sound, Found}
 use Rattle.walks.specs.Cells.{Each, least_in}
-use Rattle.walks.specs.Eliminated.{Block, Cross, Swept, Near, Calmed, Ready, Improved, Closes, FirstDone, SecondDone, ThirdDone, SweptTo}
+use Rattle.walks.specs.Eliminated.{Block, Near, Calmed, Ready, Improved, Closes, Combines, Brought, FirstDone}
 use Rattle.walks.specs.declared.cells.Cell.{Cell}
 use Rattle.walks.proofs.Least.{least_unique}
 use Rattle.walks.proofs.Fold.{fold_step}
 use Rattle.walks.proofs.Loops.{look_finds, no_hidden_loop}
 use Rattle.walks.proofs.Cut.{low_near, least_is_near}
-use Rattle.walks.proofs.Stages.{ThirdCosts, low_start, low_end, low_zero, third_start, third_step, third_skip, third_final}
+use Rattle.walks.proofs.Stages.{low_zero, second_cell, third_cell}
 
 module _ (A : Algebra) {C : Type 0} (value : C → A.Value) (n : ℕ) (card : ℕ → ℕ → Option A.Value) (cells : List (Cell C)) where
   -- the first stage before its look at h
   abbrev pub FirstTo : ℕ → Type 0
   FirstTo h = Each A value n cells (λ s t. LowLeast A card (min (min s t) h) s t)
 
-  -- the third stage after its pass by way of k
-  abbrev pub ThirdTo : ℕ → Type 0
-  ThirdTo k = Each A value n cells (λ s t. LeastOf A (ThirdCosts A card n k s t))
+  -- the second stage before it comes to v
+  abbrev pub SecondTo : ℕ → ℕ → Type 0
+  SecondTo goal v = (j : ℕ) → goal < j → j < v → LowLeast A card j j goal (least_in A value n cells j j)
 
--- the level of a cell in the second stage
-swept_level : (t k a b : ℕ) → a ≤ b → (h : ℕ) × (h ≤ b) × Swept t k a b h
-swept_level t k a b l = go (cases_order a t)
-  where
-    go : (a ≡ t) ⊎ ((a < t) ⊎ (t < a)) → (h : ℕ) × (h ≤ b) × Swept t k a b h
-    go (inl e) = (min b k, omega arith, inr (inl (e, refl)))
-    go (inr (inl d)) = (b, omega arith, inl (d, refl))
-    go (inr (inr d)) = (a, l, inr (inr (d, refl)))
+  -- the third stage before it comes to the formats below v
+  abbrev pub ThirdTo : ℕ → ℕ → Type 0
+  ThirdTo goal v = (j : ℕ) → v ≤ j → j < n → (j ≡ goal → ⊥) → Least A card j goal (least_in A value n cells j j)
 
 module _ {A : Algebra} (L : Lawful A) {C : Type 0} (value : C → A.Value) (n : ℕ) (card : ℕ → ℕ → Option A.Value) (sound : Sound A n card) where
   near_low : (h s t : ℕ) (o : Option A.Value) → h ≤ n → Calmed A card h → LowLeast A card h s t o → Near A n o
@@ -97,141 +92,84 @@ module _ {A : Algebra} (L : Lawful A) {C : Type 0} (value : C → A.Value) (n : 
       let e : min (min s t) h ≡ min s t = omega arith in
       subst (λ j. LowLeast A card j s t (least_in A value n cells s t)) e (to s t ls lt ne)
 
-  -- the second stage
-  pub swept_none : (cells : List (Cell C)) → FirstDone A value n card cells → SweptTo A value n card cells 0 0
-  swept_none cells done s t ls lt ne h w = subst (λ j. LowLeast A card j s t (least_in A value n cells s t)) (level w) (done s t ls lt ne)
-    where
-      level : Swept 0 0 (min s t) (max s t) h → min s t ≡ h
-      level (inl d) = absurd (omega arith)
-      level (inr (inl d)) = omega arith
-      level (inr (inr d)) = omega arith
+  near_least : (s t : ℕ) (o : Option A.Value) → (s ≡ t → ⊥) → Calmed A card n → Least A card s t o → Near A n o
+  near_least s t o ne calm least x e =
+      let few = sound.small in
+      L.within_more (n - 1) (suc n) x (omega arith) (omega arith)
+      (least_is_near L n card sound (no_hidden_loop L n card sound calm) s t ne x (subst (Least A card s t) e least))
 
-  pub swept_ready : (cells : List (Cell C)) (t k : ℕ) → n * n ≤ length cells → k < n → Calmed A card n → SweptTo A value n card cells t k → Ready A value n k cells
-  swept_ready cells t k room lk calm to = record {
+  -- a cell at the level of its lower format
+  first_at : (cells : List (Cell C)) → FirstDone A value n card cells → (h s t : ℕ) → s < n → t < n → (s ≡ t → ⊥) → min s t ≡ h → LowLeast A card h s t (least_in A value n cells s t)
+  first_at cells done h s t ls lt ne e = subst (λ h. LowLeast A card h s t (least_in A value n cells s t)) e (done s t ls lt ne)
+
+  -- the first stage's cells are off the diagonal
+  first_brought : (entry exit : List (Cell C)) (v : ℕ) (o : Option A.Value) (goal low high : ℕ) → Brought A value n v o goal low high entry exit → FirstDone A value n card entry → FirstDone A value n card exit
+  first_brought entry exit v o goal low high b done s t ls lt ne =
+      subst (LowLeast A card (min s t) s t) (sym (b.others s t ls lt (λ e. ne (e.0 ∙ sym e.1)))) (done s t ls lt ne)
+
+  -- the second stage
+  pub second_none : (cells : List (Cell C)) (goal : ℕ) → SecondTo A value n card cells goal (goal + 1)
+  second_none cells goal j l m = absurd (omega arith)
+
+  pub second_combines : (cells : List (Cell C)) (goal v : ℕ) → n * n ≤ length cells → goal < v → v < n → Calmed A card n → FirstDone A value n card cells → SecondTo A value n card cells goal v →
+      Combines A value n v goal (goal + 1) v cells
+  second_combines cells goal v room lg lv calm done to = record {
     room = room;
     small = sound.small;
-    inside = lk;
-    near = λ s ls ne. (near s k ls lk ne, near k s lk ls (λ e. ne (sym e)));
+    inside = (lv, omega arith, omega arith);
+    near = λ j l m ne. (
+      near_low j v j _ (omega arith) (λ k u. calm k (omega arith)) (first_at cells done j v j lv (omega arith) (λ e. absurd (omega arith)) (omega arith)),
+      near_low j j goal _ (omega arith) (λ k u. calm k (omega arith)) (to j (omega arith) m),
+    );
   }
+
+  pub second_more : (entry exit : List (Cell C)) (goal v : ℕ) → goal < v → v < n → Calmed A card n → FirstDone A value n card entry → SecondTo A value n card entry goal v →
+      Brought A value n v (least_in A value n entry v goal) goal (goal + 1) v entry exit → FirstDone A value n card exit × SecondTo A value n card exit goal (v + 1)
+  second_more entry exit goal v lg lv calm done to b = (first_brought entry exit v _ goal (goal + 1) v b done, λ j l m. go j l m (cases_lt j v))
     where
-      near : (a b : ℕ) → a < n → b < n → (a ≡ b → ⊥) → Near A n (least_in A value n cells a b)
-      near a b la lb ne =
-          let level = swept_level t k (min a b) (max a b) (omega arith) in
-          near_low level.0 a b _ (omega (arith, level.1)) (λ j l. calm j (omega (arith, level.1))) (to a b la lb ne level.0 level.2)
+      here : LowLeast A card v v goal (least_in A value n exit v v)
+      here =
+          second_cell L card n calm v goal _ _ _ _ lg lv (first_at entry done goal v goal lv (omega arith) (λ e. absurd (omega arith)) (omega arith))
+          (λ j l m. (first_at entry done j v j lv (omega arith) (λ e. absurd (omega arith)) (omega arith), to j l m)) b.best
 
-  -- the column t begins: folding in t itself changes nothing
-  pub swept_begin : (cells : List (Cell C)) (t : ℕ) → (GainsAt A card t → ⊥) → SweptTo A value n card cells t t → SweptTo A value n card cells t (t + 1)
-  swept_begin cells t calm to a b la lb ne h w = go w
-    where
-      low : (j : ℕ) → Swept t t (min a b) (max a b) j → LowLeast A card j a b (least_in A value n cells a b)
-      low = to a b la lb ne
-
-      same : (j : ℕ) → j ≡ h → LowLeast A card j a b (least_in A value n cells a b) → LowLeast A card h a b (least_in A value n cells a b)
-      same j e = subst (λ j. LowLeast A card j a b (least_in A value n cells a b)) e
-
-      lift : (a ≡ t) ⊎ (b ≡ t) → LowLeast A card t a b (least_in A value n cells a b) → LowLeast A card (suc t) a b (least_in A value n cells a b)
-      lift (inl e) l = subst (λ s. LowLeast A card (suc s) a b (least_in A value n cells a b)) e
-          (low_start L card a b _ (subst (λ s. GainsAt A card s → ⊥) (sym e) calm) (subst (λ s. LowLeast A card s a b (least_in A value n cells a b)) (sym e) l))
-      lift (inr e) l = subst (λ s. LowLeast A card (suc s) a b (least_in A value n cells a b)) e
-          (low_end L card a b _ (subst (λ s. GainsAt A card s → ⊥) (sym e) calm) (subst (λ s. LowLeast A card s a b (least_in A value n cells a b)) (sym e) l))
-
-      end : min a b ≡ t → (a < b) ⊎ (b ≤ a) → (a ≡ t) ⊎ (b ≡ t)
-      end e (inl l) = inl (omega arith)
-      end e (inr l) = inr (omega arith)
-
-      apart : (a < b) ⊎ (b ≤ a) → min a b < max a b
-      apart (inl l) = omega arith
-      apart (inr l) = elim (cases_order a b) [ inl e ↦ absurd (ne e) | inr (inl m) ↦ omega arith | inr (inr m) ↦ omega arith ]
-
-      go : Swept t (t + 1) (min a b) (max a b) h → LowLeast A card h a b (least_in A value n cells a b)
-      go (inl d) = low h (inl d)
-      go (inr (inl d)) =
-          let wide = apart (cases_lt a b) in
-          same (suc t) (omega arith) (lift (end d.0 (cases_lt a b)) (low t (inr (inl (d.0, omega arith)))))
-      go (inr (inr d)) = low h (inr (inr d))
-
-  pub swept_more : (entry exit : List (Cell C)) (t k : ℕ) → t < k → k < n → (GainsAt A card k → ⊥) → SweptTo A value n card entry t k →
-      Improved A value n k (Cross t (k + 1) n) entry exit → SweptTo A value n card exit t (k + 1)
-  swept_more entry exit t k lt lk calm to i a b la lb ne h w = go w
-    where
-      miss : (Cross t (k + 1) n a b → ⊥) → Swept t k (min a b) (max a b) h → LowLeast A card h a b (least_in A value n exit a b)
-      miss out v = subst (LowLeast A card h a b) (sym (i.missed a b la lb out)) (to a b la lb ne h v)
-
-      fold : Cross t (k + 1) n a b → suc k ≡ h → LowLeast A card k a b (least_in A value n entry a b) → LowLeast A card k a k (least_in A value n entry a k) →
-          LowLeast A card k k b (least_in A value n entry k b) → LowLeast A card h a b (least_in A value n exit a b)
-      fold c e lo lp lq = subst (λ j. LowLeast A card j a b (least_in A value n exit a b)) e (fold_step L card k a b _ _ _ _ calm lo lp lq (i.hit a b la lb c))
-
-      low : min a b ≡ t → max a b ≤ k → Cross t (k + 1) n a b → ⊥
-      low e l (inl c) = absurd (omega arith)
-      low e l (inr c) = absurd (omega arith)
-
-      other : (min a b ≡ t → ⊥) → Cross t (k + 1) n a b → ⊥
-      other d (inl c) = d (omega arith)
-      other d (inr c) = d (omega arith)
-
-      high : min a b ≡ t → k < max a b → h ≡ min (max a b) (k + 1) → (a < b) ⊎ (b ≤ a) → LowLeast A card h a b (least_in A value n exit a b)
-      high e l f (inl m) =
-          fold (inr (omega arith, omega arith, omega arith, lb, ne)) (omega arith) (to a b la lb ne k (inr (inl (e, omega arith))))
-          (to a k la lk (λ d. absurd (omega arith)) k (inr (inl (omega arith, omega arith)))) (to k b lk lb (λ d. absurd (omega arith)) k (inr (inr (omega arith, omega arith))))
-      high e l f (inr m) =
-          fold (inl (omega arith, la, omega arith, omega arith, ne)) (omega arith) (to a b la lb ne k (inr (inl (e, omega arith))))
-          (to a k la lk (λ d. absurd (omega arith)) k (inr (inr (omega arith, omega arith)))) (to k b lk lb (λ d. absurd (omega arith)) k (inr (inl (omega arith, omega arith))))
-
-      turn : min a b ≡ t → h ≡ min (max a b) (k + 1) → (k < max a b) ⊎ (max a b ≤ k) → LowLeast A card h a b (least_in A value n exit a b)
-      turn e f (inl l) = high e l f (cases_lt a b)
-      turn e f (inr l) = miss (low e l) (inr (inl (e, omega arith)))
-
-      go : Swept t (k + 1) (min a b) (max a b) h → LowLeast A card h a b (least_in A value n exit a b)
-      go (inl d) = miss (other (λ e. absurd (omega arith))) (inl d)
-      go (inr (inl d)) = turn d.0 d.1 (cases_lt k (max a b))
-      go (inr (inr d)) = miss (other (λ e. absurd (omega arith))) (inr (inr d))
-
-  pub swept_next : (cells : List (Cell C)) (t k : ℕ) → n ≤ k → SweptTo A value n card cells t k → SweptTo A value n card cells (t + 1) (t + 1)
-  swept_next cells t k l to a b la lb ne h w = to a b la lb ne h (go w (cases_order (min a b) t))
-    where
-      go : Swept (t + 1) (t + 1) (min a b) (max a b) h → (min a b ≡ t) ⊎ ((min a b < t) ⊎ (t < min a b)) → Swept t k (min a b) (max a b) h
-      go (inl d) (inl e) = inr (inl (e, omega arith))
-      go (inl d) (inr (inl m)) = inl (m, d.1)
-      go (inl d) (inr (inr m)) = absurd (omega arith)
-      go (inr (inl d)) e = inr (inr (omega arith, omega arith))
-      go (inr (inr d)) e = inr (inr (omega arith, d.1))
-
-  pub swept_all : (cells : List (Cell C)) (t k : ℕ) → n ≤ t → SweptTo A value n card cells t k → SecondDone A value n card cells
-  swept_all cells t k l to a b la lb ne = to a b la lb ne (max a b) (inl (omega arith, refl))
+      go : (j : ℕ) → goal < j → j < v + 1 → (j < v) ⊎ (v ≤ j) → LowLeast A card j j goal (least_in A value n exit j j)
+      go j l m (inl u) = subst (LowLeast A card j j goal) (sym (b.others j j (omega arith) (omega arith) (λ e. absurd (omega (arith, e.0))))) (to j l u)
+      go j l m (inr u) = let e : v ≡ j = omega arith in subst (λ j. LowLeast A card j j goal (least_in A value n exit j j)) e here
 
   -- the third stage
-  pub third_none : (cells : List (Cell C)) → SecondDone A value n card cells → ThirdTo A value n card cells n
-  third_none cells done s t ls lt ne = third_start L card n s t _ (done s t ls lt ne)
-
-  -- a cell with a format from k on is final
-  third_least : (cells : List (Cell C)) (k : ℕ) → Calmed A card n → ThirdTo A value n card cells k → (s t : ℕ) → s < n → t < n → (s ≡ t → ⊥) → k ≤ suc (max s t) →
-      Least A card s t (least_in A value n cells s t)
-  third_least cells k calm to s t ls lt ne l = third_final L card n sound calm k s t _ ls lt l (to s t ls lt ne)
-
-  pub third_ready : (cells : List (Cell C)) (k : ℕ) → n * n ≤ length cells → k < n → Calmed A card n → ThirdTo A value n card cells (suc k) → Ready A value n k cells
-  third_ready cells k room lk calm to = record {
+  pub third_combines : (cells : List (Cell C)) (goal v : ℕ) → n * n ≤ length cells → v < n → Calmed A card n → FirstDone A value n card cells → ThirdTo A value n card cells goal (v + 1) →
+      Combines A value n v goal (v + 1) n cells
+  third_combines cells goal v room lv calm done to = record {
     room = room;
     small = sound.small;
-    inside = lk;
-    near = λ s ls ne. (near s k ls lk ne (omega arith), near k s lk ls (λ e. ne (sym e)) (omega arith));
+    inside = (lv, omega arith, omega arith);
+    near = λ j l m ne. (
+      near_low v v j _ (omega arith) (λ k u. calm k (omega arith)) (first_at cells done v v j lv m (λ e. absurd (omega arith)) (omega arith)),
+      near_least j goal _ ne calm (to j l m ne),
+    );
   }
-    where
-      near : (s t : ℕ) → s < n → t < n → (s ≡ t → ⊥) → suc k ≤ suc (max s t) → Near A n (least_in A value n cells s t)
-      near s t ls lt ne l x e =
-          let few = sound.small in
-          L.within_more (n - 1) (suc n) x (omega arith) (omega arith)
-          (least_is_near L n card sound (no_hidden_loop L n card sound calm) s t ne x (subst (Least A card s t) e (third_least cells (suc k) calm to s t ls lt ne l)))
 
-  pub third_more : (entry exit : List (Cell C)) (k : ℕ) → k < n → Calmed A card n → ThirdTo A value n card entry (suc k) →
-      Improved A value n k (Block 0 k 0 k) entry exit → ThirdTo A value n card exit k
-  third_more entry exit k lk calm to i s t ls lt ne = go (cases_lt (max s t) k)
-    where
-      go : (max s t < k) ⊎ (k ≤ max s t) → LeastOf A (ThirdCosts A card n k s t) (least_in A value n exit s t)
-      go (inl l) =
-          third_step L card n k s t _ _ _ _ (omega arith) (omega arith) lk (to s t ls lt ne) (third_least entry (suc k) calm to s k ls lk (λ e. absurd (omega arith)) (omega arith))
-          (third_least entry (suc k) calm to k t lk lt (λ e. absurd (omega arith)) (omega arith)) (i.hit s t ls lt (omega arith, omega arith, omega arith, omega arith, ne))
-      go (inr l) =
-          subst (LeastOf A (ThirdCosts A card n k s t)) (sym (i.missed s t ls lt (λ b. absurd (omega arith)))) (third_skip L card n k s t _ l (to s t ls lt ne))
+  -- what is held for v at first
+  pub third_held : (cells : List (Cell C)) (goal v middle : ℕ) → goal < n → v < n → (v ≡ goal → ⊥) → ((goal < v) × (middle ≡ v)) ⊎ ((v ≤ goal) × (middle ≡ goal)) →
+      FirstDone A value n card cells → SecondTo A value n card cells goal (v + 1) → LowLeast A card v v goal (least_in A value n cells v middle)
+  third_held cells goal v middle lg lv ne (inl (l, e)) done to = subst (λ m. LowLeast A card v v goal (least_in A value n cells v m)) (sym e) (to v l (omega arith))
+  third_held cells goal v middle lg lv ne (inr (l, e)) done to =
+      subst (λ m. LowLeast A card v v goal (least_in A value n cells v m)) (sym e) (first_at cells done v v goal lv lg ne (omega arith))
 
-  pub third_all : (cells : List (Cell C)) (k : ℕ) → k ≤ 1 → Calmed A card n → ThirdTo A value n card cells k → ThirdDone A value n card cells
-  third_all cells k l calm to s t ls lt ne = third_least cells k calm to s t ls lt ne (omega arith)
+  pub third_more : (entry exit : List (Cell C)) (o : Option A.Value) (goal v : ℕ) → v < n → (v ≡ goal → ⊥) → Calmed A card n → FirstDone A value n card entry →
+      SecondTo A value n card entry goal (v + 1) → ThirdTo A value n card entry goal (v + 1) → LowLeast A card v v goal o →
+      Brought A value n v o goal (v + 1) n entry exit → FirstDone A value n card exit × SecondTo A value n card exit goal v × ThirdTo A value n card exit goal v
+  third_more entry exit o goal v lv ne calm done second to held b =
+      (first_brought entry exit v o goal (v + 1) n b done, before, λ j l m d. go j l m d (cases_lt v j))
+    where
+      before : SecondTo A value n card exit goal v
+      before j l m = subst (LowLeast A card j j goal) (sym (b.others j j (omega arith) (omega arith) (λ e. absurd (omega (arith, e.0))))) (second j l (omega arith))
+
+      here : Least A card v goal (least_in A value n exit v v)
+      here =
+          third_cell L card n calm sound v goal o _ _ _ ne held
+          (λ j l m d. (first_at entry done v v j lv m (λ e. absurd (omega arith)) (omega arith), to j (omega arith) m d)) b.best
+
+      go : (j : ℕ) → v ≤ j → j < n → (j ≡ goal → ⊥) → (v < j) ⊎ (j ≤ v) → Least A card j goal (least_in A value n exit j j)
+      go j l m d (inl u) = subst (Least A card j goal) (sym (b.others j j m m (λ e. absurd (omega (arith, e.0))))) (to j (omega arith) m d)
+      go j l m d (inr u) = let e : v ≡ j = omega arith in subst (λ j. Least A card j goal (least_in A value n exit j j)) e here

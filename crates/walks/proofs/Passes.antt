@@ -12,7 +12,7 @@ use Rattle.costs.specs.Algebra.{Algebra, Lawful, reach}
 use Rattle.walks.specs.Walk.{LeastOf}
 use Rattle.walks.specs.Theorems.{Sound, Either}
 use Rattle.walks.specs.Cells.{empty, cell, Beyond, Kept, Laid, cards_in, least_in}
-use Rattle.walks.specs.Eliminated.{Block, Cross, Joinable, UndercutUnit, Near, Ready, Improved}
+use Rattle.walks.specs.Eliminated.{Block, Joinable, UndercutUnit, Near, Ready, Improved}
 use Rattle.walks.specs.declared.cells.Cell.{Cell}
 use Rattle.walks.proofs.Least.{equal_unless, either_none, either_new, either_better, either_kept, joined_is}
 
@@ -186,13 +186,6 @@ module _ (A : Algebra) {C : Type 0} (value : C → A.Value) (n : ℕ) where
       split : (a b : ℕ) → Block s (s + 1) c c' a b → (b < s) ⊎ (s ≤ b) → Block s (s + 1) c s a b ⊎ Block s (s + 1) (s + 1) c' a b
       split a b h (inl l) = inl (h.0, h.1, h.2, l, h.4)
       split a b h (inr l) = inr (h.0, h.1, elim (cases_lt s b) [ inl d ↦ omega arith | inr d ↦ absurd (h.4 (omega arith)) ], h.3, h.4)
-
-  -- the column of t and its row, where the pivot and t are outside of the other formats
-  pub cross_both : (k t low high : ℕ) (first second third : List (Cell C)) → k < n → t < k → k < low →
-      Improved A value n k (Block low high t (t + 1)) first second → Improved A value n k (Block t (t + 1) low high) second third → Improved A value n k (Cross t low high) first third
-  cross_both k t low high first second third lk lt lo =
-      improved_then k (Block low high t (t + 1)) (Block t (t + 1) low high) (Cross t low high) first second third lk (λ a b h. h) (λ a b h. inl h) (λ a b h. inr h)
-      (λ a b h. (λ g. absurd (omega arith), λ g. absurd (omega arith), λ g. absurd (omega arith)))
 
 -- y is held for the combination of the costs p and q: it is exact, so what is told by it is told by them
 module _ {A : Algebra} (L : Lawful A) (p q : Option A.Value) (joinable : ∥ Joinable A p q ∥₁) (a b y : A.Value) (ep : p ≡ Some a) (eq : q ≡ Some b)

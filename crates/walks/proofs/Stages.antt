@@ -1,30 +1,26 @@
--- What the three stages of the search need: where a fold changes nothing, and what the third stage holds in a cell.
--- `ThirdCosts n k s t`: the walks through formats below both ends, and those by way of a format from k on that is above both.
-use Rattle.std.proofs.Common.{◌≡◌, ℕ, suc, ◌<◌, ◌≤◌, max, ◌⊎◌, List, [], ◌∷◌, ◌++◌, Some, Option, sym, refl, ap, subst, inl, inr, arith}
-use Rattle.std.proofs.lemmas.Bool.{cases_lt, cases_order}
+-- What the stages of the search need: the least cost from v to the goal, by what is known of the formats below v or above it.
+use Rattle.std.proofs.Common.{◌≡◌, ℕ, zero, suc, ◌+◌, ◌-◌, ◌<◌, ◌≤◌, ◌⊎◌, List, [], ◌∷◌, ◌++◌, Some, Option, sym, refl, ap, subst, inl, inr, arith}
+use Rattle.std.proofs.lemmas.Bool.{cases_lt}
 use Rattle.costs.specs.Algebra.{Algebra, Lawful}
-use Rattle.walks.specs.Walk.{Below, LeastOf, WalkCosts, LowWalkCosts, Least, LowLeast, GainsAt}
-use Rattle.walks.specs.Theorems.{Sound, Either}
+use Rattle.walks.specs.Walk.{path, Below, Absent, Distinct, LeastOf, WalkCosts, LowWalkCosts, Least, LowLeast, GainsAt}
+use Rattle.walks.specs.Theorems.{Sound}
+use Rattle.walks.specs.Eliminated.{ByWay, Calmed}
 use Rattle.walks.proofs.Runs.{Runs, to_runs, of_runs, runs_join, runs_split}
-use Rattle.walks.proofs.Least.{AtMost, Covers, OrJoin, at_most_self, drop_front, drop_back, least_made, least_cover, least_same, least_either}
-use Rattle.walks.proofs.Fold.{Low, Calm, Passes, of_low, to_least_low, of_least_low, calm_at, low_mono, pass}
-use Rattle.walks.proofs.Loops.{runs_inside}
+use Rattle.walks.proofs.Least.{AtMost, Serves, Covers, at_most_self, at_most_trans, at_most_joined, drop_back, least_has, least_serves, least_made, least_cover}
+use Rattle.walks.proofs.Fold.{Low, Calm, Passes, to_low, of_low, to_least_low, of_least_low, calm_at, low_mono, low_join, pass}
+use Rattle.walks.proofs.Loops.{runs_inside, no_hidden_loop}
+use Rattle.walks.proofs.Cut.{absent_parts, below_absent, distinct_front, chain_of}
 
-module _ (A : Algebra) (card : ℕ → ℕ → Option A.Value) where
-  abbrev pub ThirdCosts : ℕ → ℕ → ℕ → ℕ → A.Value → Type 0
-  ThirdCosts n k s t x = LowWalkCosts A card (max s t) s t x ⊎
-      ((r : ℕ) × (k ≤ r) × (r < n) × (max s t < r) × (a : A.Value) × (b : A.Value) × WalkCosts A card s r a × WalkCosts A card r t b × (x ≡ A.join a b))
-
--- a format above m stands in the list, or all are up to m
-high_in : (m : ℕ) (ms : List ℕ) → Below (suc m) ms ⊎ ((is : List ℕ) × (r : ℕ) × (js : List ℕ) × (m < r) × (ms ≡ is ++ r ∷ js))
-high_in m [] = inl tt
-high_in m (k ∷ ks) = go (cases_lt m k) (high_in m ks)
+-- all formats of the list are up to m, or it is split by the first that is above m
+first_high : (m : ℕ) (ms : List ℕ) → Below (suc m) ms ⊎ ((is : List ℕ) × (r : ℕ) × (js : List ℕ) × Below (suc m) is × (m < r) × (ms ≡ is ++ r ∷ js))
+first_high m [] = inl tt
+first_high m (k ∷ ks) = go (cases_lt m k) (first_high m ks)
   where
-    go : (m < k) ⊎ (k ≤ m) → Below (suc m) ks ⊎ ((is : List ℕ) × (r : ℕ) × (js : List ℕ) × (m < r) × (ks ≡ is ++ r ∷ js)) →
-        Below (suc m) (k ∷ ks) ⊎ ((is : List ℕ) × (r : ℕ) × (js : List ℕ) × (m < r) × (k ∷ ks ≡ is ++ r ∷ js))
-    go (inl l) h = inr ([], k, ks, l, refl)
+    go : (m < k) ⊎ (k ≤ m) → Below (suc m) ks ⊎ ((is : List ℕ) × (r : ℕ) × (js : List ℕ) × Below (suc m) is × (m < r) × (ks ≡ is ++ r ∷ js)) →
+        Below (suc m) (k ∷ ks) ⊎ ((is : List ℕ) × (r : ℕ) × (js : List ℕ) × Below (suc m) is × (m < r) × (k ∷ ks ≡ is ++ r ∷ js))
+    go (inl l) h = inr ([], k, ks, tt, l, refl)
     go (inr l) (inl b) = inl (omega arith, b)
-    go (inr l) (inr (is, r, js, m, e)) = inr (k ∷ is, r, js, m, ap (λ l. k ∷ l) e)
+    go (inr l) (inr (is, r, js, b, m, e)) = inr (k ∷ is, r, js, (omega arith, b), m, ap (λ l. k ∷ l) e)
 
 module _ {A : Algebra} (L : Lawful A) (card : ℕ → ℕ → Option A.Value) where
   to_walk : (s t : ℕ) (x : A.Value) → WalkCosts A card s t x → (ms : List ℕ) × Runs A card s ms t x
@@ -33,17 +29,7 @@ module _ {A : Algebra} (L : Lawful A) (card : ℕ → ℕ → Option A.Value) wh
   of_walk : (s : ℕ) (ms : List ℕ) (t : ℕ) (x : A.Value) → Runs A card s ms t x → WalkCosts A card s t x
   of_walk s ms t x r = (ms, (of_runs L card s ms t x r).0, (of_runs L card s ms t x r).1)
 
-  -- a walk that passes its own start or end inside is covered by one that does not
-  skip_start : (s t : ℕ) → (GainsAt A card s → ⊥) → (x : A.Value) → Low A card (suc s) s t x → Covers A (Low A card s s t) x
-  skip_start s t g x w = go (pass L card s calm s w.0 t x w.1 w.2)
-    where
-      calm : Calm A card s
-      calm = calm_at L card s g
-
-      go : Covers A (Passes L card s s t) x → Covers A (Low A card s s t) x
-      go (y, inl v, d) = (y, v, d)
-      go (y, inr (a, b, u, v, f), d) = (b, v, drop_front L a b y x (calm a u) f d)
-
+  -- a walk that passes its own end inside is covered by one that does not
   skip_end : (s t : ℕ) → (GainsAt A card t → ⊥) → (x : A.Value) → Low A card (suc t) s t x → Covers A (Low A card t s t) x
   skip_end s t g x w = go (pass L card t calm s w.0 t x w.1 w.2)
     where
@@ -54,15 +40,6 @@ module _ {A : Algebra} (L : Lawful A) (card : ℕ → ℕ → Option A.Value) wh
       go (y, inl v, d) = (y, v, d)
       go (y, inr (a, b, u, v, f), d) = (a, u, drop_back L a b y x (calm b v) f d)
 
-  -- folding in an end of the walk changes nothing
-  pub low_start : (s t : ℕ) (o : Option A.Value) → (GainsAt A card s → ⊥) → LowLeast A card s s t o → LowLeast A card (suc s) s t o
-  low_start s t o g l = of_least_low L card (suc s) s t o
-      (least_cover L (Low A card s s t) (Low A card (suc s) s t) o (λ x. low_mono L card s (suc s) s t x (omega arith)) (skip_start s t g) (to_least_low L card s s t o l))
-
-  pub low_end : (s t : ℕ) (o : Option A.Value) → (GainsAt A card t → ⊥) → LowLeast A card t s t o → LowLeast A card (suc t) s t o
-  low_end s t o g l = of_least_low L card (suc t) s t o
-      (least_cover L (Low A card t s t) (Low A card (suc t) s t) o (λ x. low_mono L card t (suc t) s t x (omega arith)) (skip_end s t g) (to_least_low L card t s t o l))
-
   pub low_zero : (s t : ℕ) → LowLeast A card 0 s t (card s t)
   low_zero s t = of_least_low L card 0 s t (card s t) (least_made L (Low A card 0 s t) (card s t) (λ x e. ([], tt, e)) serve)
     where
@@ -70,73 +47,101 @@ module _ {A : Algebra} (L : Lawful A) (card : ℕ → ℕ → Option A.Value) wh
       serve x ([], b, r) = (x, r, at_most_self L x)
       serve x (m ∷ ms, b, r) = absurd (omega (arith, b.0))
 
-  pub third_start : (n s t : ℕ) (o : Option A.Value) → LowLeast A card (max s t) s t o → LeastOf A (ThirdCosts A card n n s t) o
-  third_start n s t o = least_same L (LowWalkCosts A card (max s t) s t) (ThirdCosts A card n n s t) o (λ x w. inl w) back
-    where
-      back : (x : A.Value) → ThirdCosts A card n n s t x → LowWalkCosts A card (max s t) s t x
-      back x (inl w) = w
-      back x (inr (r, l, i, u, a, b, v, w, f)) = absurd (omega arith)
+  -- what a format that is not the goal leads on by is covered, where both of its costs are
+  by_way : (o : Option A.Value) (to on : ℕ → Option A.Value) (goal low high j : ℕ) (a b y : A.Value) → low ≤ j → j < high → (j ≡ goal → ⊥) →
+      Serves A (to j) a → Serves A (on j) b → AtMost A (A.join a b) y → Covers A (ByWay A o to on goal low high) y
+  by_way o to on goal low high j a b y l m ne p q u =
+      (A.join p.0 q.0, inr (j, l, m, ne, (p.0, q.0, p.1, q.1, refl)), at_most_trans L (A.join p.0 q.0) (A.join a b) y (at_most_joined L p.0 a q.0 b p.2 q.2) u)
 
-  pub third_step : (n k s t : ℕ) (o p q r : Option A.Value) → s < k → t < k → k < n → LeastOf A (ThirdCosts A card n (suc k) s t) o →
-      Least A card s k p → Least A card k t q → LeastOf A (Either A o p q) r → LeastOf A (ThirdCosts A card n k s t) r
-  third_step n k s t o p q r ls lt lk lo lp lq lr =
-      least_same L (OrJoin A (ThirdCosts A card n (suc k) s t) (WalkCosts A card s k) (WalkCosts A card k t)) (ThirdCosts A card n k s t) r into back
-      (least_either L (ThirdCosts A card n (suc k) s t) (WalkCosts A card s k) (WalkCosts A card k t) o p q r lo lp lq lr)
-    where
-      into : (x : A.Value) → OrJoin A (ThirdCosts A card n (suc k) s t) (WalkCosts A card s k) (WalkCosts A card k t) x → ThirdCosts A card n k s t x
-      into x (inl (inl w)) = inl w
-      into x (inl (inr (m, l, i, u, a, b, v, w, f))) = inr (m, omega arith, i, u, a, b, v, w, f)
-      into x (inr (a, b, v, w, e)) = inr (k, omega arith, lk, omega arith, a, b, v, w, e)
+  held : (o : Option A.Value) (to on : ℕ → Option A.Value) (goal low high : ℕ) (x y : A.Value) → Serves A o x → AtMost A x y → Covers A (ByWay A o to on goal low high) y
+  held o to on goal low high x y s u = (s.0, inl s.1, at_most_trans L s.0 x y s.2 u)
 
-      at : (x : A.Value) (m : ℕ) → (k ≡ m) ⊎ ((k < m) ⊎ (m < k)) → k ≤ m → m < n → max s t < m → (a b : A.Value) → WalkCosts A card s m a → WalkCosts A card m t b → x ≡ A.join a b →
-          OrJoin A (ThirdCosts A card n (suc k) s t) (WalkCosts A card s k) (WalkCosts A card k t) x
-      at x m (inl e) l i u a b v w f = inr (a, b, subst (λ j. WalkCosts A card s j a) (sym e) v, subst (λ j. WalkCosts A card j t b) (sym e) w, f)
-      at x m (inr (inl g)) l i u a b v w f = inl (inr (m, g, i, u, a, b, v, w, f))
-      at x m (inr (inr g)) l i u a b v w f = absurd (omega arith)
+  covered_by : (P : A.Value → Type 0) (x y : A.Value) → AtMost A x y → Covers A P x → Covers A P y
+  covered_by P x y u c = (c.0, c.1, at_most_trans L c.0 x y c.2 u)
 
-      back : (x : A.Value) → ThirdCosts A card n k s t x → OrJoin A (ThirdCosts A card n (suc k) s t) (WalkCosts A card s k) (WalkCosts A card k t) x
-      back x (inl w) = inl (inl w)
-      back x (inr (m, l, i, u, a, b, v, w, f)) = at x m (cases_order k m) l i u a b v w f
+  module _ (n : ℕ) (calm : Calmed A card n) where
+    -- The second stage: v is above the goal. The formats between them are folded in, one after the other.
+    pub second_cell : (v goal : ℕ) (o : Option A.Value) (to on : ℕ → Option A.Value) (r : Option A.Value) → goal < v → v < n → LowLeast A card goal v goal o →
+        ((j : ℕ) → goal < j → j < v → LowLeast A card j v j (to j) × LowLeast A card j j goal (on j)) →
+        LeastOf A (ByWay A o to on goal (goal + 1) v) r → LowLeast A card v v goal r
+    second_cell v goal o to on r lg lv lo way lr =
+        of_least_low L card v v goal r (least_cover L (ByWay A o to on goal (goal + 1) v) (Low A card v v goal) r into (cover (v - suc goal) v (omega arith) (omega arith)) lr)
+      where
+        start : LeastOf A (Low A card goal v goal) o
+        start = to_least_low L card goal v goal o lo
 
-  pub third_skip : (n k s t : ℕ) (o : Option A.Value) → k ≤ max s t → LeastOf A (ThirdCosts A card n (suc k) s t) o → LeastOf A (ThirdCosts A card n k s t) o
-  third_skip n k s t o e = least_same L (ThirdCosts A card n (suc k) s t) (ThirdCosts A card n k s t) o into back
-    where
-      into : (x : A.Value) → ThirdCosts A card n (suc k) s t x → ThirdCosts A card n k s t x
-      into x (inl w) = inl w
-      into x (inr (r, l, i, u, a, b, v, w, f)) = inr (r, omega arith, i, u, a, b, v, w, f)
+        there : (j : ℕ) → goal < j → j < v → LeastOf A (Low A card j v j) (to j)
+        there j l m = to_least_low L card j v j (to j) (way j l m).0
 
-      back : (x : A.Value) → ThirdCosts A card n k s t x → ThirdCosts A card n (suc k) s t x
-      back x (inl w) = inl w
-      back x (inr (r, l, i, u, a, b, v, w, f)) = inr (r, omega arith, i, u, a, b, v, w, f)
+        on_from : (j : ℕ) → goal < j → j < v → LeastOf A (Low A card j j goal) (on j)
+        on_from j l m = to_least_low L card j j goal (on j) (way j l m).1
 
-  -- A walk that has an inner format above both ends is cut in two there; any other passes the higher end at most, in vain.
-  pub third_final : (n : ℕ) → Sound A n card → ((h : ℕ) → h < n → GainsAt A card h → ⊥) → (k s t : ℕ) (o : Option A.Value) → s < n → t < n → k ≤ suc (max s t) →
-      LeastOf A (ThirdCosts A card n k s t) o → Least A card s t o
-  third_final n sound calm k s t o ls lt lk = least_cover L (ThirdCosts A card n k s t) (WalkCosts A card s t) o into cover
-    where
-      into : (x : A.Value) → ThirdCosts A card n k s t x → WalkCosts A card s t x
-      into x (inl w) = (w.0, w.2, w.3)
-      into x (inr (r, l, i, u, a, b, v, w, f)) =
-          let p = to_walk s r a v in
-          let q = to_walk r t b w in
-          of_walk s (p.0 ++ r ∷ q.0) t x (subst (Runs A card s (p.0 ++ r ∷ q.0) t) (sym f) (runs_join L card s p.0 r q.0 t a b p.1 q.1))
+        into : (x : A.Value) → ByWay A o to on goal (goal + 1) v x → Low A card v v goal x
+        into x (inl e) = low_mono L card goal v v goal x (omega arith) (least_has L (Low A card goal v goal) o x start e)
+        into x (inr (j, l, m, ne, (a, b, p, q, e))) =
+            subst (Low A card v v goal) (sym e)
+            (low_join L card v v j goal a b m
+            (low_mono L card j v v j a (omega arith) (least_has L (Low A card j v j) (to j) a (there j (omega arith) m) p))
+            (low_mono L card j v j goal b (omega arith) (least_has L (Low A card j j goal) (on j) b (on_from j (omega arith) m) q)))
 
-      at_start : (x : A.Value) → max s t ≡ s → Covers A (Low A card s s t) x → Covers A (ThirdCosts A card n k s t) x
-      at_start x e (y, w, d) = (y, inl (subst (λ h. LowWalkCosts A card h s t y) (sym e) (of_low L card s s t y w)), d)
+        cover : (d h : ℕ) → h ≡ d + suc goal → h ≤ v → (y : A.Value) → Low A card h v goal y → Covers A (ByWay A o to on goal (goal + 1) v) y
+        cover zero h e l y w = let f : h ≡ suc goal = omega arith in go (skip_end v goal (calm goal (omega arith)) y (subst (λ h. Low A card h v goal y) f w))
+          where
+            go : Covers A (Low A card goal v goal) y → Covers A (ByWay A o to on goal (goal + 1) v) y
+            go (z, u, m) = held o to on goal (goal + 1) v z y (least_serves L (Low A card goal v goal) o start z u) m
+        cover (suc d) k e l y w =
+            let f : k ≡ suc (d + suc goal) = omega arith in
+            let u = subst (λ h. Low A card h v goal y) f w in
+            go (λ z u. cover d (d + suc goal) refl (omega arith) z u) (pass L card (d + suc goal) (calm_at L card (d + suc goal) (calm (d + suc goal) (omega arith))) v u.0 goal y u.1 u.2)
+          where
+            h : ℕ
+            h = d + suc goal
 
-      at_end : (x : A.Value) → max s t ≡ t → Covers A (Low A card t s t) x → Covers A (ThirdCosts A card n k s t) x
-      at_end x e (y, w, d) = (y, inl (subst (λ h. LowWalkCosts A card h s t y) (sym e) (of_low L card t s t y w)), d)
+            under : (goal < h) × (h < v)
+            under = (omega arith, omega arith)
 
-      low : (x : A.Value) → (s < t) ⊎ (t ≤ s) → Low A card (suc (max s t)) s t x → Covers A (ThirdCosts A card n k s t) x
-      low x (inl l) w = let e : max s t ≡ t = omega arith in at_end x e (skip_end s t (calm t lt) x (subst (λ h. Low A card (suc h) s t x) e w))
-      low x (inr l) w = let e : max s t ≡ s = omega arith in at_start x e (skip_start s t (calm s ls) x (subst (λ h. Low A card (suc h) s t x) e w))
+            go : ((z : A.Value) → Low A card h v goal z → Covers A (ByWay A o to on goal (goal + 1) v) z) → Covers A (Passes L card h v goal) y → Covers A (ByWay A o to on goal (goal + 1) v) y
+            go lower (z, inl u, m) = covered_by (ByWay A o to on goal (goal + 1) v) z y m (lower z u)
+            go lower (z, inr (a, b, p, q, e), m) =
+                by_way o to on goal (goal + 1) v h a b y (omega (arith, under.0)) under.1 (λ e. absurd (omega (arith, under.0)))
+                (least_serves L (Low A card h v h) (to h) (there h under.0 under.1) a p)
+                (least_serves L (Low A card h h goal) (on h) (on_from h under.0 under.1) b q)
+                (subst (λ x. AtMost A x y) e m)
 
-      split : (x : A.Value) (ms : List ℕ) → Runs A card s ms t x → Below (suc (max s t)) ms ⊎ ((is : List ℕ) × (r : ℕ) × (js : List ℕ) × (max s t < r) × (ms ≡ is ++ r ∷ js)) → Covers A (ThirdCosts A card n k s t) x
-      split x ms w (inl b) = low x (cases_lt s t) (ms, b, w)
-      split x ms w (inr (is, r, js, u, e)) =
-          let v = runs_split L card s is r js t x (subst (λ l. Runs A card s l t x) e w) in
-          let i = runs_inside L card n sound s is r v.0 v.2 in
-          (x, inr (r, omega arith, i.2, u, v.0, v.1, of_walk s is r v.0 v.2, of_walk r js t v.1 v.3, v.4), at_most_self L x)
+    -- The third stage: a walk from v is cut to a chain, and the chain in two at its first format above v.
+    pub third_cell : Sound A n card → (v goal : ℕ) (o : Option A.Value) (to on : ℕ → Option A.Value) (r : Option A.Value) → (v ≡ goal → ⊥) → LowLeast A card v v goal o →
+        ((j : ℕ) → v < j → j < n → (j ≡ goal → ⊥) → LowLeast A card v v j (to j) × Least A card j goal (on j)) →
+        LeastOf A (ByWay A o to on goal (v + 1) n) r → Least A card v goal r
+    third_cell sound v goal o to on r apart lo way = least_cover L (ByWay A o to on goal (v + 1) n) (WalkCosts A card v goal) r into cover
+      where
+        low_walk : (t : ℕ) (x : A.Value) → LowWalkCosts A card v v t x → (ms : List ℕ) × Runs A card v ms t x
+        low_walk t x w = let p = to_low L card v v t x w in (p.0, p.2)
 
-      cover : (x : A.Value) → WalkCosts A card s t x → Covers A (ThirdCosts A card n k s t) x
-      cover x w = let p = to_walk s t x w in split x p.0 p.1 (high_in (max s t) p.0)
+        into : (x : A.Value) → ByWay A o to on goal (v + 1) n x → WalkCosts A card v goal x
+        into x (inl e) = let p = low_walk goal x (least_has L (LowWalkCosts A card v v goal) o x lo e) in of_walk v p.0 goal x p.1
+        into x (inr (j, l, m, ne, (a, b, e, f, g))) =
+            let known = way j (omega arith) m ne in
+            let p = low_walk j a (least_has L (LowWalkCosts A card v v j) (to j) a known.0 e) in
+            let q = to_walk j goal b (least_has L (WalkCosts A card j goal) (on j) b known.1 f) in
+            of_walk v (p.0 ++ j ∷ q.0) goal x (subst (Runs A card v (p.0 ++ j ∷ q.0) goal) (sym g) (runs_join L card v p.0 j q.0 goal a b p.1 q.1))
+
+        split : (ks : List ℕ) (z y : A.Value) → Distinct (path v ks goal) → Runs A card v ks goal z → AtMost A z y →
+            Below (suc v) ks ⊎ ((is : List ℕ) × (r : ℕ) × (js : List ℕ) × Below (suc v) is × (v < r) × (ks ≡ is ++ r ∷ js)) → Covers A (ByWay A o to on goal (v + 1) n) y
+        split ks z y d w u (inl b) =
+            held o to on goal (v + 1) n z y
+            (least_serves L (LowWalkCosts A card v v goal) o lo z (of_low L card v v goal z (ks, below_absent v ks b (absent_parts v ks (goal ∷ []) d.0).0, w))) u
+        split ks z y d w u (inr (is, r, js, b, l, e)) =
+            let cut = runs_split L card v is r js goal z (subst (λ l. Runs A card v l goal z) e w) in
+            let low = below_absent v is b (absent_parts v is (r ∷ js) (subst (λ l. Absent v l) e (absent_parts v ks (goal ∷ []) d.0).0)).0 in
+            let other = (absent_parts goal is (r ∷ js) (subst (λ l. Absent goal l) e (distinct_front ks goal [] d.1).1)).1.0 in
+            let inside = (runs_inside L card n sound v is r cut.0 cut.2).2 in
+            let known = way r l inside (λ f. other (sym f)) in
+            by_way o to on goal (v + 1) n r cut.0 cut.1 y (omega arith) inside (λ f. other (sym f))
+            (least_serves L (LowWalkCosts A card v v r) (to r) known.0 cut.0 (of_low L card v v r cut.0 (is, low, cut.2)))
+            (least_serves L (WalkCosts A card r goal) (on r) known.1 cut.1 (of_walk r js goal cut.1 cut.3)) (subst (λ x. AtMost A x y) cut.4 u)
+
+        cover : (y : A.Value) → WalkCosts A card v goal y → Covers A (ByWay A o to on goal (v + 1) n) y
+        cover y w =
+            let p = to_walk v goal y w in
+            let c = chain_of L card (no_hidden_loop L n card sound calm) v p.0 goal y apart p.1 in
+            split c.0 c.1 y c.2 c.3 c.4 (first_high v c.0)

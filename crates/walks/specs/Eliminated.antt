@@ -1,6 +1,7 @@
 -- The stages that bring a table to least costs: what one pass over it does, and what each stage promises.
 -- A pass by way of k sets cells (s, t) to the better of their own cost and the combination of those of (s, k) and (k, t).
-use Rattle.std.specs.Prelude.{◌≡◌, ℕ, suc, ◌+◌, ◌*◌, ◌<◌, ◌≤◌, min, max, ◌⊎◌, List, length, Some, None, Option, ◌≢◌}
+-- For one goal, the diagonal cell (v, v) is brought to the least cost from v to the goal.
+use Rattle.std.specs.Prelude.{◌≡◌, ℕ, suc, ◌+◌, ◌*◌, ◌<◌, ◌≤◌, min, ◌⊎◌, List, length, Some, None, Option, ◌≢◌}
 use Rattle.costs.specs.Algebra.{Algebra, reach}
 use Rattle.walks.specs.Walk.{LeastOf, Least, LowLeast, GainsAt}
 use Rattle.walks.specs.Theorems.{Either, Joined}
@@ -10,14 +11,6 @@ use Rattle.walks.specs.declared.cells.Cell.{Cell}
 -- the cells of two different formats in the rows from r to r' and the columns from c to c'
 abbrev pub Block : ℕ → ℕ → ℕ → ℕ → ℕ → ℕ → Type 0
 Block r r' c c' s t = (r ≤ s) × (s < r') × (c ≤ t) × (t < c') × (s ≢ t)
-
--- the cells of t and a format from low to high, in the row of t and in its column
-abbrev pub Cross : ℕ → ℕ → ℕ → ℕ → ℕ → Type 0
-Cross t low high a b = Block low high t (t + 1) a b ⊎ Block t (t + 1) low high a b
-
--- how far the cells have come in the second stage, at column t and pivot k, for a cell whose lower format is a and whose higher is b
-abbrev pub Swept : ℕ → ℕ → ℕ → ℕ → ℕ → Type 0
-Swept t k a b h = ((a < t) × (h ≡ b)) ⊎ (((a ≡ t) × (h ≡ min b k)) ⊎ ((t < a) × (h ≡ a)))
 
 module _ (A : Algebra) where
   -- a cost that is there lies within one card more than there are formats
@@ -31,6 +24,10 @@ module _ (A : Algebra) where
   -- both costs are there, and undercut the unit together
   abbrev pub UndercutUnit : Option A.Value → Option A.Value → Type 0
   UndercutUnit p q = (x : A.Value) × Joined A p q x × A.Under x A.unit
+
+  -- x is o, or the combination of the cost to a format j from low to high, which is not the goal, and of the cost on from there
+  abbrev pub ByWay : Option A.Value → (ℕ → Option A.Value) → (ℕ → Option A.Value) → ℕ → ℕ → ℕ → A.Value → Type 0
+  ByWay o to on goal low high x = (o ≡ Some x) ⊎ ((j : ℕ) × (low ≤ j) × (j < high) × (j ≢ goal) × Joined A (to j) (on j) x)
 
   -- no closed walk at a format below h, through lower ones, undercuts the unit
   abbrev pub Calmed : (ℕ → ℕ → Option A.Value) → ℕ → Type 0
@@ -60,22 +57,35 @@ module _ (A : Algebra) {C : Type 0} (value : C → A.Value) (n : ℕ) where
   abbrev pub Closes : List (Cell C) → ℕ → ℕ → Type 0
   Closes cells h k = UndercutUnit A (least_in A value n cells h k) (least_in A value n cells k h)
 
+  -- x is o, or the cost from v to a format from low to high, which is not the goal, and on by that format's diagonal cell
+  abbrev pub Ways : List (Cell C) → ℕ → Option A.Value → ℕ → ℕ → ℕ → A.Value → Type 0
+  Ways cells v o goal low high = ByWay A o (λ j. least_in A value n cells v j) (λ j. least_in A value n cells j j) goal low high
+
+  -- the ways can be combined: the table has its cells, and the costs to and on from each such format are near
+  pub record Combines (v goal low high : ℕ) (cells : List (Cell C)) : Type 0 where
+    pub room : n * n ≤ length cells
+    pub small : 2 * (n + 1) ≤ reach
+    pub inside : (v < n) × (low ≤ high) × (high ≤ n)
+    pub near : (j : ℕ) → low ≤ j → j < high → (j ≢ goal) → Near A n (least_in A value n cells v j) × Near A n (least_in A value n cells j j)
+
+  -- the diagonal cell of v has the least of the ways at entry; the others are as they were
+  pub record Brought (v : ℕ) (o : Option A.Value) (goal low high : ℕ) (entry exit : List (Cell C)) : Type 0 where
+    pub best : LeastOf A (Ways entry v o goal low high) (least_in A value n exit v v)
+    pub others : (s t : ℕ) → s < n → t < n → ((s ≡ v) × (t ≡ v) → ⊥) → least_in A value n exit s t ≡ least_in A value n entry s t
+    pub kept : Kept n entry exit
+
   module _ (card : ℕ → ℕ → Option A.Value) (cells : List (Cell C)) where
     -- each cell has its least cost over inner formats below both of its own
     abbrev pub FirstDone : Type 0
     FirstDone = Each A value n cells (λ s t. LowLeast A card (min s t) s t)
 
-    -- each cell has its least cost over inner formats below the higher of its own
-    abbrev pub SecondDone : Type 0
-    SecondDone = Each A value n cells (λ s t. LowLeast A card (max s t) s t)
+    -- each format above the goal has, in its diagonal cell, its least cost to the goal over inner formats below its own number
+    abbrev pub SecondDone : ℕ → Type 0
+    SecondDone goal = (v : ℕ) → v < n → goal < v → LowLeast A card v v goal (least_in A value n cells v v)
 
-    -- each cell has its least cost
-    abbrev pub ThirdDone : Type 0
-    ThirdDone = Each A value n cells (λ s t. Least A card s t)
-
-    -- each cell has its least cost as far as the second stage has come
-    abbrev pub SweptTo : ℕ → ℕ → Type 0
-    SweptTo t k = Each A value n cells (λ a b o. (h : ℕ) → Swept t k (min a b) (max a b) h → LowLeast A card h a b o)
+    -- each other format has, in its diagonal cell, its least cost to the goal
+    abbrev pub ThirdDone : ℕ → Type 0
+    ThirdDone goal = (v : ℕ) → v < n → (v ≢ goal) → Least A card v goal (least_in A value n cells v v)
 
     -- the first format at which a closed walk through lower ones undercuts the unit; or there is none, and each cell has its cost
     abbrev pub FirstFound : Option ℕ → Type 0

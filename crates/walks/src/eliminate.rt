@@ -1,12 +1,14 @@
-// Three stages that bring a table of cells, each with its card's cost, to least costs.
-// The stages take the slice and n beside it, as their callers hold them, and make a pivot of both for each format.
+// Three stages that bring a table of cells, each with its card's cost, to least costs: the first for every goal, the other
+// two for one goal, whose costs they leave in the diagonal cells.
+// The stages take the slice and n beside it, as their callers hold them. The first makes a pivot of both for each format.
 // They go over formats by `for` and range: a format is its number, and where its cells lie is computed from it.
-ghost use Rattle.std.specs.Prelude.{◌≡◌, ℕ, ◌+◌, ◌*◌, ◌<◌, ◌≤◌, true, false, Decides, Some, ◌≢◌};
+ghost use Rattle.std.specs.Prelude.{◌≡◌, ℕ, ◌+◌, ◌*◌, ◌<◌, ◌≤◌, true, false, length, Decides, Some, ◌≢◌};
 ghost use Rattle.std.specs.Option.{option_map};
+ghost use Rattle.costs.specs.Algebra.{reach};
 ghost use Rattle.walks.specs.Walk.{LeastOf};
 ghost use Rattle.walks.specs.Theorems.{Either};
 ghost use Rattle.walks.specs.Cells.{Laid, Kept, Each, cards_in, least_in};
-ghost use Rattle.walks.specs.Eliminated.{Block, Cross, Joinable, UndercutUnit, Calmed, Ready, FirstDone, SecondDone, ThirdDone, SweptTo, FirstFound};
+ghost use Rattle.walks.specs.Eliminated.{Block, Near, Joinable, UndercutUnit, Calmed, Ready, Ways, Combines, Brought, FirstDone, SecondDone, ThirdDone, FirstFound};
 
 use crate::Cell;
 use crate::cells::cell_at;
@@ -91,23 +93,6 @@ impl<C: Cost> Pivot<'_, C> {
         }
     }
 
-    // Every cell of a format from `low` to `high` and `t`, by way of the pivot. `t` and the pivot are outside of them.
-    fn pass_column(&mut self, t: usize, low: usize, high: usize)
-        requires column { (t < self.old.n) × (t ≢ self.old.at) × ((low ≤ t) → (t < high) → ⊥) }
-        requires rows { (low ≤ high) × (high ≤ self.old.n) × ((low ≤ self.old.at) → (self.old.at < high) → ⊥) }
-        ensures { Passed (Block low high t (t + 1)) self.old self.new }
-    {
-        let at = self.at;
-        let second = self.least(at, t);
-        if second.is_none() {
-            return;
-        }
-        for s in low..high {
-            let first = self.least(s, at);
-            self.improve(first, second, s, t);
-        }
-    }
-
     // Every cell of two formats from `low` to `high`, by way of the pivot, which is outside of them.
     // Inlined, so that its loops keep the pivot in registers.
     #[inline(always)]
@@ -119,17 +104,6 @@ impl<C: Cost> Pivot<'_, C> {
             self.pass_row(s, low, s);
             self.pass_row(s, s + 1, high);
         }
-    }
-
-    // Every cell of `t` and a format above the pivot, in both directions, by way of the pivot.
-    fn turn(&mut self, t: usize)
-        requires lower { t < self.old.at }
-        ensures { Passed (Cross t (self.old.at + 1) self.old.n) self.old self.new }
-    {
-        let n = self.n;
-        let above = self.at + 1;
-        self.pass_column(t, above, n);
-        self.pass_row(t, above, n);
     }
 
     // Whether the costs from the pivot to `k` and back undercut the unit.
@@ -167,44 +141,110 @@ pub fn first_stage<C: Cost>(cells: &mut [Cell<C>], n: usize) -> Option<usize>
     None
 }
 
-// The column and the row of `t` in the second stage.
-fn sweep<C: Cost>(cells: &mut [Cell<C>], n: usize, t: usize)
-    requires laid { Laid C.Cost.algebra C.Cost.value n cells.old }
-    requires calm { Calmed C.Cost.algebra (cards_in C.Cost.algebra C.Cost.value n cells.old) n }
-    requires inside { t < n }
-    requires swept { SweptTo C.Cost.algebra C.Cost.value n (cards_in C.Cost.algebra C.Cost.value n cells.old) cells.old t t }
-    ensures kept { Kept n cells.old cells.new }
-    ensures swept { SweptTo C.Cost.algebra C.Cost.value n (cards_in C.Cost.algebra C.Cost.value n cells.old) cells.new (t + 1) (t + 1) }
+// The better of what is held, and of the cost from `v` to `j` and on from there by the diagonal cell of `j`.
+fn way_by<C: Cost>(cells: &[Cell<C>], n: usize, v: usize, j: usize, held: Option<C>) -> Option<C>
+    requires room { n * n ≤ length cells.now }
+    requires small { 2 * (n + 1) ≤ reach }
+    requires inside { (v < n) × (j < n) }
+    requires near { Near C.Cost.algebra n (least_in C.Cost.algebra C.Cost.value n cells.now v j) × Near C.Cost.algebra n (least_in C.Cost.algebra C.Cost.value n cells.now j j) }
+    ensures { LeastOf C.Cost.algebra (Either C.Cost.algebra (option_map C.Cost.value held) (least_in C.Cost.algebra C.Cost.value n cells.now v j) (least_in C.Cost.algebra C.Cost.value n cells.now j j)) (option_map C.Cost.value result) }
 {
-    for k in t + 1..n {
-        let mut pivot = Pivot { cells, n, at: k };
-        pivot.turn(t);
-    }
+    let first = cell_at(cells, n, v, j).least;
+    let second = cell_at(cells, n, j, j).least;
+    let (Some(one), Some(two)) = (first, second) else {
+        return held;
+    };
+    better(held, one, two)
 }
 
-// The second stage: every cell's least cost over inner formats below the higher of its own.
-pub fn second_stage<C: Cost>(cells: &mut [Cell<C>], n: usize)
+// The best of what is held, and of the ways from `v` by a format from `low` to `high` that is not the goal.
+fn best_way<C: Cost>(
+    cells: &[Cell<C>],
+    n: usize,
+    v: usize,
+    goal: usize,
+    low: usize,
+    high: usize,
+    held: Option<C>,
+) -> Option<C>
+    requires { Combines C.Cost.algebra C.Cost.value n v goal low high cells.now }
+    ensures { LeastOf C.Cost.algebra (Ways C.Cost.algebra C.Cost.value n cells.now v (option_map C.Cost.value held) goal low high) (option_map C.Cost.value result) }
+{
+    let mut best = held;
+    for j in low..high {
+        if j != goal {
+            best = way_by(cells, n, v, j, best);
+        }
+    }
+    best
+}
+
+// Sets the diagonal cell of `v` to the best of them.
+fn bring<C: Cost>(
+    cells: &mut [Cell<C>],
+    n: usize,
+    v: usize,
+    goal: usize,
+    low: usize,
+    high: usize,
+    held: Option<C>,
+)
+    requires { Combines C.Cost.algebra C.Cost.value n v goal low high cells.old }
+    ensures { Brought C.Cost.algebra C.Cost.value n v (option_map C.Cost.value held) goal low high cells.old cells.new }
+{
+    let best = best_way(cells, n, v, goal, low, high, held);
+    let cell = &mut cells[v * n + v];
+    cell.least = best;
+}
+
+// The second stage for one goal: in the diagonal cell of each format above the goal, its least cost to the goal over inner
+// formats below that format.
+pub fn second_stage<C: Cost>(cells: &mut [Cell<C>], n: usize, goal: usize)
     requires laid { Laid C.Cost.algebra C.Cost.value n cells.old }
     requires calm { Calmed C.Cost.algebra (cards_in C.Cost.algebra C.Cost.value n cells.old) n }
+    requires inside { goal < n }
     requires low { FirstDone C.Cost.algebra C.Cost.value n (cards_in C.Cost.algebra C.Cost.value n cells.old) cells.old }
     ensures kept { Kept n cells.old cells.new }
-    ensures middle { SecondDone C.Cost.algebra C.Cost.value n (cards_in C.Cost.algebra C.Cost.value n cells.old) cells.new }
+    ensures low { FirstDone C.Cost.algebra C.Cost.value n (cards_in C.Cost.algebra C.Cost.value n cells.old) cells.new }
+    ensures middle { SecondDone C.Cost.algebra C.Cost.value n (cards_in C.Cost.algebra C.Cost.value n cells.old) cells.new goal }
 {
-    for t in 0..n {
-        sweep(cells, n, t);
+    for v in goal + 1..n {
+        let held = cell_at(cells, n, v, goal).least;
+        bring(cells, n, v, goal, goal + 1, v, held);
     }
 }
 
-// The third stage: every cell's least cost.
-pub fn third_stage<C: Cost>(cells: &mut [Cell<C>], n: usize)
+// The third stage for one goal: in the diagonal cell of each other format, its least cost to the goal.
+pub fn third_stage<C: Cost>(cells: &mut [Cell<C>], n: usize, goal: usize)
     requires laid { Laid C.Cost.algebra C.Cost.value n cells.old }
     requires calm { Calmed C.Cost.algebra (cards_in C.Cost.algebra C.Cost.value n cells.old) n }
-    requires middle { SecondDone C.Cost.algebra C.Cost.value n (cards_in C.Cost.algebra C.Cost.value n cells.old) cells.old }
+    requires inside { goal < n }
+    requires low { FirstDone C.Cost.algebra C.Cost.value n (cards_in C.Cost.algebra C.Cost.value n cells.old) cells.old }
+    requires middle { SecondDone C.Cost.algebra C.Cost.value n (cards_in C.Cost.algebra C.Cost.value n cells.old) cells.old goal }
     ensures kept { Kept n cells.old cells.new }
-    ensures least { ThirdDone C.Cost.algebra C.Cost.value n (cards_in C.Cost.algebra C.Cost.value n cells.old) cells.new }
+    ensures low { FirstDone C.Cost.algebra C.Cost.value n (cards_in C.Cost.algebra C.Cost.value n cells.old) cells.new }
+    ensures least { ThirdDone C.Cost.algebra C.Cost.value n (cards_in C.Cost.algebra C.Cost.value n cells.old) cells.new goal }
 {
-    for k in (1..n).rev() {
-        let mut pivot = Pivot { cells, n, at: k };
-        pivot.pass(0, k);
+    for v in (0..n).rev() {
+        if v != goal {
+            // The second stage has left the cost of a format above the goal in its diagonal cell.
+            let middle = if v > goal { v } else { goal };
+            let held = cell_at(cells, n, v, middle).least;
+            bring(cells, n, v, goal, v + 1, n, held);
+        }
     }
+}
+
+// Both stages for one goal.
+pub fn solve_to<C: Cost>(cells: &mut [Cell<C>], n: usize, goal: usize)
+    requires laid { Laid C.Cost.algebra C.Cost.value n cells.old }
+    requires calm { Calmed C.Cost.algebra (cards_in C.Cost.algebra C.Cost.value n cells.old) n }
+    requires inside { goal < n }
+    requires low { FirstDone C.Cost.algebra C.Cost.value n (cards_in C.Cost.algebra C.Cost.value n cells.old) cells.old }
+    ensures kept { Kept n cells.old cells.new }
+    ensures low { FirstDone C.Cost.algebra C.Cost.value n (cards_in C.Cost.algebra C.Cost.value n cells.old) cells.new }
+    ensures least { ThirdDone C.Cost.algebra C.Cost.value n (cards_in C.Cost.algebra C.Cost.value n cells.old) cells.new goal }
+{
+    second_stage(cells, n, goal);
+    third_stage(cells, n, goal);
 }

@@ -13,7 +13,7 @@ mod theory;
 mod trail;
 
 pub use cells::{Cell, cell_at};
-pub use eliminate::{first_stage, second_stage, third_stage};
+pub use eliminate::{first_stage, second_stage, solve_to, third_stage};
 pub use examples::worked_cases;
 pub use pricing::{Unpriced, price};
 pub use rows::{ROW, write_chain, write_no_chain};

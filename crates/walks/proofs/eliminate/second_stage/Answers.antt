@@ -1,36 +1,31 @@
--- Column by column; the cards that a column is swept by are those at entry.
-use Rattle.std.proofs.Common.{◌+◌, sym, subst}
-use Rattle.walks.specs.Eliminated.{Calmed, SweptTo}
-use Rattle.walks.proofs.Passes.{kept_none, kept_then, cards_kept, laid_kept}
-use Rattle.walks.proofs.Levels.{swept_none, swept_all}
+-- From the goal up: what a format's column needs of the formats below it is done.
+use Rattle.std.proofs.Common.{◌+◌, subst, arith}
+use Rattle.walks.specs.Eliminated.{Brought}
+use Rattle.walks.proofs.Passes.{kept_none, kept_then, laid_kept}
+use Rattle.walks.proofs.Columns.{least_read}
+use Rattle.walks.proofs.Levels.{second_none, second_combines, second_more}
 use Rattle.walks.proofs.eliminate.second_stage.Goals as goal
 
-pub loop-t-init : goal.loop-t-init
-loop-t-init g c = (kept_none _ _, swept_none g.met.C.Cost.lawful _ _ _ c.requires.laid.sound _ c.requires.low)
+pub loop-v-init : goal.loop-v-init
+loop-v-init g c = (kept_none _ _, c.requires.low, second_none g.met.C.Cost.lawful _ _ _ c.requires.laid.sound _ _)
 
-pub sweep-requires : goal.sweep-requires
-sweep-requires g c =
+pub bring-requires : goal.bring-requires
+bring-requires g c =
+    let room = (laid_kept _ _ _ _ _ c.loop-v.invariant.0 c.requires.laid).room in
+    second_combines g.met.C.Cost.lawful _ _ _ c.requires.laid.sound _ _ _ room (omega arith) c.loop-v-test.true c.requires.calm c.loop-v.invariant.1 c.loop-v.invariant.2
+
+pub loop-v-preserved : goal.loop-v-preserved
+loop-v-preserved g c =
     let A = g.C.Cost.algebra in
     let value = g.C.Cost.value in
-    let same = sym (cards_kept A value c.args.n _ _ c.loop-t.invariant.0) in
-    record {
-      laid = laid_kept A value _ _ _ c.loop-t.invariant.0 c.requires.laid;
-      calm = subst (λ card. Calmed A card c.args.n) same c.requires.calm;
-      inside = c.loop-t-test.true;
-      swept = subst (λ card. SweptTo A value c.args.n card c.loop-t.cells c.loop-t.t c.loop-t.t) same c.loop-t.invariant.1;
-    }
-
-pub loop-t-preserved : goal.loop-t-preserved
-loop-t-preserved g c =
-    let A = g.C.Cost.algebra in
-    let value = g.C.Cost.value in
-    let same = cards_kept A value c.args.n _ _ c.loop-t.invariant.0 in (
-      kept_then _ _ _ _ c.loop-t.invariant.0 c.sweep.ensures.kept,
-      subst (λ card. SweptTo A value c.args.n card c.sweep.new.cells (c.loop-t.t + 1) (c.loop-t.t + 1)) same c.sweep.ensures.swept,
-    )
+    let n = c.args.n in
+    let brought = subst (λ o. Brought A value n c.loop-v.v o c.args.goal (c.args.goal + 1) c.loop-v.v c.loop-v.cells c.bring.new.cells) (least_read A value n c.loop-v.cells _ _ _ c.cell_at-held.ensures) c.bring.ensures in
+    let more = second_more g.met.C.Cost.lawful value n _ c.requires.laid.sound _ _ _ _ (omega arith) c.loop-v-test.true c.requires.calm c.loop-v.invariant.1 c.loop-v.invariant.2 brought in
+    (kept_then _ _ _ _ c.loop-v.invariant.0 c.bring.ensures.kept, more.0, more.1)
 
 pub returns : goal.returns
 returns g c = record {
-  kept = c.loop-t.invariant.0;
-  middle = swept_all g.met.C.Cost.lawful _ _ _ c.requires.laid.sound _ _ _ c.loop-t-test.false c.loop-t.invariant.1;
+  kept = c.loop-v.invariant.0;
+  low = c.loop-v.invariant.1;
+  middle = λ v l u. c.loop-v.invariant.2 v u (omega arith);
 }

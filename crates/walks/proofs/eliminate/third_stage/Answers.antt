@@ -1,36 +1,39 @@
--- Pivots from the highest down; a cell with a format from the pivot on is final.
-use Rattle.std.proofs.Common.{◌≡◌, suc, ◌-◌, subst, arith, rules}
-use Rattle.walks.specs.Cells.{Kept, cards_in}
+-- From the highest format down: what a format's column needs of the formats above it is done.
+use Rattle.std.proofs.Common.{◌≡◌, ◌+◌, ◌-◌, subst, inl, inr, arith}
+use Rattle.walks.specs.Cells.{cards_in}
+use Rattle.walks.specs.Eliminated.{Brought}
 use Rattle.walks.proofs.Passes.{kept_none, kept_then, laid_kept}
-use Rattle.walks.proofs.Levels.{ThirdTo, third_none, third_ready, third_more, third_all}
-use Rattle.walks.proofs.PivotSteps.{lent_back}
+use Rattle.walks.proofs.Columns.{least_read}
+use Rattle.walks.proofs.Levels.{SecondTo, ThirdTo, third_combines, third_held, third_more}
 use Rattle.walks.proofs.eliminate.third_stage.Goals as goal
+use Rattle.walks.proofs.eliminate.third_stage.Goals.{then-v-goal-2, else-v-goal-2}
 
-pub loop-k-init : goal.loop-k-init
-loop-k-init g c = (kept_none _ _, third_none g.met.C.Cost.lawful _ _ _ c.requires.laid.sound _ c.requires.middle)
+pub loop-v-init : goal.loop-v-init
+loop-v-init g c = (kept_none _ _, c.requires.low, λ v l u. c.requires.middle v u l, λ j l m d. absurd (omega arith))
 
-pub invariant_of-pivot : goal.invariant_of-pivot
-invariant_of-pivot g c =
+pub bring-requires : goal.bring-requires
+bring-requires g c =
     let A = g.C.Cost.algebra in
     let value = g.C.Cost.value in
-    let next : c.loop-k.k ≡ suc (c.loop-k.k - 1) = omega arith in
-    let to = subst (ThirdTo A value c.args.n (cards_in A value c.args.n c.args.cells.now) c.loop-k.cells) next c.loop-k.invariant.1 in
-    let room = (laid_kept A value _ _ _ c.loop-k.invariant.0 c.requires.laid).room in
-    record { ready = ∣ third_ready g.met.C.Cost.lawful _ _ _ c.requires.laid.sound _ _ room (omega arith) c.requires.calm to ∣₁ }
+    let n = c.args.n in
+    let room = (laid_kept _ _ _ _ _ c.loop-v.invariant.0 c.requires.laid).room in
+    let next : c.loop-v.v ≡ c.loop-v.v - 1 + 1 = omega arith in
+    let to = subst (ThirdTo A value n (cards_in A value n c.args.cells.now) c.loop-v.cells c.args.goal) next c.loop-v.invariant.3 in
+    third_combines g.met.C.Cost.lawful _ _ _ c.requires.laid.sound _ _ _ room (omega arith) c.requires.calm c.loop-v.invariant.1 to
 
-pub loop-k-preserved : goal.loop-k-preserved
-loop-k-preserved g c =
+pub loop-v-preserved-then-v-goal : goal.loop-v-preserved-then-v-goal
+loop-v-preserved-then-v-goal g c =
     let A = g.C.Cost.algebra in
     let value = g.C.Cost.value in
-    let next : c.loop-k.k ≡ suc (c.loop-k.k - 1) = omega arith in
-    let to = subst (ThirdTo A value c.args.n (cards_in A value c.args.n c.args.cells.now) c.loop-k.cells) next c.loop-k.invariant.1 in
-    lent_back (λ cells. Kept c.args.n c.args.cells.now cells × ThirdTo A value c.args.n (cards_in A value c.args.n c.args.cells.now) cells (c.loop-k.k - 1)) (
-      kept_then _ _ _ _ c.loop-k.invariant.0 c.pass.ensures.improved.kept,
-      third_more g.met.C.Cost.lawful _ _ _ c.requires.laid.sound _ _ _ (omega arith) c.requires.calm to c.pass.ensures.improved,
-    ) (search rules)
-
-pub returns : goal.returns
-returns g c = record {
-  kept = c.loop-k.invariant.0;
-  least = third_all g.met.C.Cost.lawful _ _ _ c.requires.laid.sound _ _ c.loop-k-test.false c.requires.calm c.loop-k.invariant.1;
-}
+    let n = c.args.n in
+    let L = g.met.C.Cost.lawful in
+    let card = cards_in A value n c.args.cells.now in
+    let next : c.loop-v.v ≡ c.loop-v.v - 1 + 1 = omega arith in
+    let second = subst (SecondTo A value n card c.loop-v.cells c.args.goal) next c.loop-v.invariant.2 in
+    let to = subst (ThirdTo A value n card c.loop-v.cells c.args.goal) next c.loop-v.invariant.3 in
+    let held = third_held L value n card c.requires.laid.sound c.loop-v.cells c.args.goal (c.loop-v.v - 1) c.if-v-goal-2.middle c.requires.inside (omega arith) c.if-v-goal.true
+    (elim c.if-v-goal-2.branch [ then-v-goal-2 w ↦ inl (w.if-v-goal-2.true, w.middle-is) | else-v-goal-2 w ↦ inr (w.if-v-goal-2.false, w.middle-is) ])
+    c.loop-v.invariant.1 second in
+    let brought = subst (λ o. Brought A value n (c.loop-v.v - 1) o c.args.goal (c.loop-v.v - 1 + 1) n c.loop-v.cells c.bring.new.cells) (least_read A value n c.loop-v.cells _ _ _ c.cell_at-held.ensures) c.bring.ensures in
+    let more = third_more L value n card c.requires.laid.sound _ _ _ _ _ (omega arith) c.if-v-goal.true c.requires.calm c.loop-v.invariant.1 second to held brought in
+    (kept_then _ _ _ _ c.loop-v.invariant.0 c.bring.ensures.kept, more.0, more.1, more.2)

@@ -1,9 +1,11 @@
 use Rattle.walks.specs.Cells.{Kept, cards_in}
-use Rattle.walks.proofs.Levels.{ThirdTo}
+use Rattle.walks.specs.Eliminated.{FirstDone}
+use Rattle.walks.proofs.Levels.{SecondTo, ThirdTo}
 use Rattle.walks.proofs.eliminate.third_stage.Given as goal
 
-abbrev pub invariant-loop-k : goal.invariant-loop-k
-invariant-loop-k g l =
+abbrev pub invariant-loop-v : goal.invariant-loop-v
+invariant-loop-v g l =
     let A = g.C.Cost.algebra in
     let value = g.C.Cost.value in
-    Kept l.n l.initial.cells l.cells × ThirdTo A value l.n (cards_in A value l.n l.initial.cells) l.cells l.k
+    let card = cards_in A value l.n l.initial.cells in
+    Kept l.n l.initial.cells l.cells × FirstDone A value l.n card l.cells × SecondTo A value l.n card l.cells l.goal l.v × ThirdTo A value l.n card l.cells l.goal l.v
