@@ -1,6 +1,7 @@
 pub mod LegSteps
 pub mod Granted
 pub mod PlaceSteps
+pub mod TableSteps
 pub mod RouteSteps
 pub mod RouteCall
 pub mod Answering

@@ -63,10 +63,10 @@ module _ {A : Algebra} (L : Lawful A) {C : Type 0} (value : C → A.Value) (n : 
     leg_outside b far = leg_left b (λ ms w. absurd (omega (arith, walk_inside leg.from ms leg.to w)))
 
     module _ (traced : Traced A value n table leg.to next leg.from) where
-      pub leg_none : Blank A value (place p k) → None ≡ (cell n table leg.from leg.to).least → LegDone A value card next k p p
+      pub leg_none : Blank A value (place p k) → None ≡ (cell n table leg.from leg.from).least → LegDone A value card next k p p
       leg_none b e = leg_left b (λ ms w. let none : TracedBy next leg.to leg.from None = subst (TracedBy next leg.to leg.from) (sym e) traced in none _ (ms, w, refl))
 
-      module _ (few : n ≤ 64) (x : C) (e : Some x ≡ (cell n table leg.from leg.to).least) where
+      module _ (few : n ≤ 64) (x : C) (e : Some x ≡ (cell n table leg.from leg.from).least) where
         traced_some : TracedBy next leg.to leg.from (Some x)
         traced_some = subst (TracedBy next leg.to leg.from) (sym e) traced
 
@@ -74,7 +74,7 @@ module _ {A : Algebra} (L : Lawful A) {C : Type 0} (value : C → A.Value) (n : 
         leg_leads = let (ms, chain, costs, follows) = traced_some in chain_leads L n card laid.sound few next leg.to leg.from ms chain follows
 
         -- the row, cost and note of the leg are written
-        pub leg_written : Least A card leg.from leg.to (least_in A value n table leg.from leg.to) → k < length p.legs → Room p → (count : ℕ) (legs : List Leg) (chains : List ℕ) →
+        pub leg_written : Least A card leg.from leg.to (least_in A value n table leg.from leg.from) → k < length p.legs → Room p → (count : ℕ) (legs : List Leg) (chains : List ℕ) →
             ((fs : List ℕ) → Follows next leg.to leg.from fs → (count ≡ length fs) × (chains ≡ put_row p.chains k (row_of fs))) →
             legs ≡ set p.legs k (noted (ChainOf count) (get_or p.legs k no_leg)) → LegDone A value card next k p (page legs (set p.costs k x) chains)
         leg_written least inside room count legs chains told noted_is =

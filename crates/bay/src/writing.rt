@@ -1,6 +1,7 @@
-// The rows, costs and notes of all legs, from a table of least costs.
+// The rows, costs and notes of all legs, from a table that is brought to the least costs to one goal after the other.
 ghost use Rattle.std.specs.Prelude.{◌≡◌, ℕ, ◌*◌, ◌<◌, ◌≤◌, false, map, length, get_or, ◌≢◌, slice_index_or};
-ghost use Rattle.walks.specs.Cells.{Each, Laid, cards_in, least_in};
+ghost use Rattle.walks.specs.Cells.{Kept, Laid, cards_in, least_in};
+ghost use Rattle.walks.specs.Eliminated.{FirstDone};
 ghost use Rattle.walks.specs.Sheet.{row_at};
 ghost use Rattle.walks.specs.Tracing.{Clear, Traced};
 ghost use Rattle.walks.specs.Walk.{Gains, Least};
@@ -14,7 +15,7 @@ ghost use Rattle.bay.specs.Routing.{Beyond};
 use crate::legs::{Leg, Legs, Note};
 use costs::Cost;
 use registers::MOST_FORMATS;
-use walks::{Cell, cell_at, trace, write_chain, write_no_chain};
+use walks::{Cell, cell_at, solve_to, trace, write_chain, write_no_chain};
 
 // What a route writes: leg k with its note, entry k of the cost sheet and row k of the chain sheet. The table and its size n
 // stand beside it as two arguments, as in the stages and the trace.
@@ -63,7 +64,7 @@ impl<C: Cost> Page<'_, C> {
     )
         requires laid { Laid C.Cost.algebra C.Cost.value n table.now }
         requires few { n ≤ 64 }
-        requires least { leg.from < n → Least C.Cost.algebra (cards_in C.Cost.algebra C.Cost.value n table.now) leg.from leg.to (least_in C.Cost.algebra C.Cost.value n table.now leg.from leg.to) }
+        requires least { leg.from < n → Least C.Cost.algebra (cards_in C.Cost.algebra C.Cost.value n table.now) leg.from leg.to (least_in C.Cost.algebra C.Cost.value n table.now leg.from leg.from) }
         requires leg { (k < length (booked self.old.legs.now)) × (leg ≡ slice_index_or (booked self.old.legs.now) k no_leg) × (leg.to < n) }
         requires traced { leg.from < n → Traced C.Cost.algebra C.Cost.value n table.now leg.to next.now leg.from }
         requires blank { Blank C.Cost.algebra C.Cost.value (place (page_of self.old) k) }
@@ -73,7 +74,7 @@ impl<C: Cost> Page<'_, C> {
         if leg.from >= n {
             return;
         }
-        let Some(cost) = cell_at(table, n, leg.from, leg.to).least else {
+        let Some(cost) = cell_at(table, n, leg.from, leg.from).least else {
             return;
         };
         self.costs[k] = cost;
@@ -86,7 +87,7 @@ impl<C: Cost> Page<'_, C> {
         requires laid { Laid C.Cost.algebra C.Cost.value n table.now }
         requires few { n ≤ 64 }
         requires inside { goal < n }
-        requires least { Each C.Cost.algebra C.Cost.value n table.now (λ s t. Least C.Cost.algebra (cards_in C.Cost.algebra C.Cost.value n table.now) s t) }
+        requires least { (v : ℕ) → v < n → (v ≢ goal) → Least C.Cost.algebra (cards_in C.Cost.algebra C.Cost.value n table.now) v goal (least_in C.Cost.algebra C.Cost.value n table.now v v) }
         requires traced { (v : ℕ) → v < n → (v ≢ goal) → Traced C.Cost.algebra C.Cost.value n table.now goal next.now v }
         requires awaits { Awaits C.Cost.algebra C.Cost.value goal (page_of self.old) }
         ensures lent { SameLent self.old self.new }
@@ -103,30 +104,33 @@ impl<C: Cost> Page<'_, C> {
         }
     }
 
-    // The rows, costs and notes of all legs. The ticks are for its own use, and are clear again at the end.
+    // The rows, costs and notes of all legs. The table's diagonal and the ticks are for its own use; the ticks are clear again at
+    // the end.
     pub(crate) fn write_routes(
         &mut self,
         n: usize,
-        table: &[Cell<C>],
+        table: &mut [Cell<C>],
         ticks: &mut [bool; MOST_FORMATS],
     )
-        requires laid { Laid C.Cost.algebra C.Cost.value n table.now }
+        requires laid { Laid C.Cost.algebra C.Cost.value n table.old }
         requires few { n ≤ 64 }
-        requires calm { Gains C.Cost.algebra (cards_in C.Cost.algebra C.Cost.value n table.now) → ⊥ }
-        requires least { Each C.Cost.algebra C.Cost.value n table.now (λ s t. Least C.Cost.algebra (cards_in C.Cost.algebra C.Cost.value n table.now) s t) }
+        requires calm { Gains C.Cost.algebra (cards_in C.Cost.algebra C.Cost.value n table.old) → ⊥ }
+        requires low { FirstDone C.Cost.algebra C.Cost.value n (cards_in C.Cost.algebra C.Cost.value n table.old) table.old }
         requires clear { Clear ticks.old }
         ensures lent { SameLent self.old self.new }
-        ensures routed { (d : C) → Routed C.Cost.algebra (cards_in C.Cost.algebra C.Cost.value n table.now) (map ends (booked self.old.legs.now)) (row_at self.new.chains.now) (λ k. C.Cost.value (slice_index_or self.new.costs.now k d)) }
+        ensures routed { (d : C) → Routed C.Cost.algebra (cards_in C.Cost.algebra C.Cost.value n table.old) (map ends (booked self.old.legs.now)) (row_at self.new.chains.now) (λ k. C.Cost.value (slice_index_or self.new.costs.now k d)) }
         ensures chains { Beyond (66 * length (booked self.old.legs.now)) self.old.chains.now self.new.chains.now }
         ensures costs { Beyond (length (booked self.old.legs.now)) self.old.costs.now self.new.costs.now }
         ensures legs { length (booked self.new.legs.now) ≡ length (booked self.old.legs.now) }
         ensures notes { (k : ℕ) → k < length (booked self.old.legs.now) → slice_index_or (booked self.new.legs.now) k no_leg ≡ noted (note_of (row_at self.new.chains.now k)) (slice_index_or (booked self.old.legs.now) k no_leg) }
+        ensures kept { Kept n table.old table.new }
         ensures clear { Clear ticks.new }
     {
         self.clear();
         let mut next = [0; MOST_FORMATS];
         for goal in 0..n {
             if self.leads_to(goal) {
+                solve_to(table, n, goal);
                 trace(table, n, goal, ticks, &mut next);
                 self.write_goal(goal, n, table, &next);
             }

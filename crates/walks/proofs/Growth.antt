@@ -185,14 +185,14 @@ module _ {A : Algebra} (L : Lawful A) {C : Type 0} (value : C → A.Value) (n : 
   pub full_traced : (ticked : List Bool) (next : List ℕ) → Full A value n cells goal ticked next → (v : ℕ) → v < n → (v ≡ goal → ⊥) → Traced A value n cells goal next v
   full_traced ticked next full v l ne = go (cases_Bool (get_or ticked v false))
     where
-      none : least_in A value n cells v goal ≡ None → Traced A value n cells goal next v
+      none : least_in A value n cells v v ≡ None → Traced A value n cells goal next v
       none e = rw e (rw e at (ready.least v l ne))
 
       go : (get_or ticked v false ≡ true) ⊎ (get_or ticked v false ≡ false) → Traced A value n cells goal next v
       go (inl i) =
           let led = full.grown v i in
           let (ms, e, chain) = led_chain A (cards_in A value n cells) (to_goal A value n cells goal) goal ticked next v led ne in
-          let d : least_in A value n cells v goal ≡ Some (cost A (cards_in A value n cells) (path v ms goal)) = sym (to_goal_inside L value n cells goal v l ne) ∙ rw e at led.costs in
+          let d : least_in A value n cells v v ≡ Some (cost A (cards_in A value n cells) (path v ms goal)) = sym (to_goal_inside L value n cells goal v l ne) ∙ rw e at led.costs in
           rw d (ms, chain, refl, rw e at led.follows)
       go (inr f) = none (sym (to_goal_inside L value n cells goal v l ne) ∙
           ended_none L n (cards_in A value n cells) ready.laid.sound ready.calm goal (to_goal A value n cells goal) (to_goal_goal L value n cells goal)

@@ -5,9 +5,8 @@ use Rattle.std.specs.Option.{option_map}
 use Rattle.costs.specs.Algebra.{Algebra, Lawful}
 use Rattle.registers.specs.Meaning.{Meaning, meant, standing, most_formats}
 use Rattle.walks.specs.Walk.{path, Below, cost, Chain, Loop, WalkCosts, Least, Gains, GainsAt}
-use Rattle.walks.specs.Theorems.{Sound}
 use Rattle.walks.specs.Cells.{cards_in, least_in}
-use Rattle.walks.specs.Eliminated.{Near, Looked}
+use Rattle.walks.specs.Eliminated.{Calmed, FirstDone, Near, Looked}
 use Rattle.walks.specs.Tracing.{Follows, Traced}
 use Rattle.walks.specs.Sheet.{LeadsIn}
 use Rattle.walks.specs.Solved.{upto, Settled, Solved, Back, Turns}
@@ -26,30 +25,38 @@ card_near {A} L value n (Some y) few admitted x e =
     subst (A.Within (suc n)) d (L.within_more 1 (suc n) (value y) (omega arith) (omega arith) (L.admitted_within (value y) admitted))
 
 -- the search up to h finds no closed walk, where no look below h found one
-pub solved_back : {A : Algebra} → Lawful A → {C : Type 0} (value : C → A.Value) (held : Meaning C) (n h : ℕ) (cells : List (Cell C)) (r : Option ℕ) →
-    n ≡ held.size → n ≤ most_formats → Looked A (standing (meant value held)) held.size (Some h) →
-    Sound A n (upto h (standing (meant value held))) → Solved A value n (upto h (standing (meant value held))) cells r → Back A value n (standing (meant value held)) cells h
-solved_back {A} L value held n h cells r size few (inside, gains, calm) sound solved = record { inside = omega arith; few = few; sound = sound; settled = go r solved }
-  where
-    go : (r : Option ℕ) → Solved A value n (upto h (standing (meant value held))) cells r → Settled A value n (upto h (standing (meant value held))) cells
-    go None s = s
-    go (Some k) (l, g, lower) = absurd (upto_calm L h (standing (meant value held)) calm (k, g.0, g.2, g.3))
+pub solved_settled : {A : Algebra} → Lawful A → {C : Type 0} (value : C → A.Value) (held : Meaning C) (n h : ℕ) (cells : List (Cell C)) (r : Option ℕ) →
+    Looked A (standing (meant value held)) held.size (Some h) → Solved A value n (upto h (standing (meant value held))) cells r → Settled A value n (upto h (standing (meant value held))) cells
+solved_settled {A} L value held n h cells None found s = s
+solved_settled {A} L value held n h cells (Some k) (inside, gains, calm) (l, g, lower) = absurd (upto_calm L h (standing (meant value held)) calm (k, g.0, g.2, g.3))
+
+-- where no closed walk undercuts the unit, none at any format does
+pub calmed_all : (A : Algebra) (card : ℕ → ℕ → Option A.Value) (n : ℕ) → (Gains A card → ⊥) → Calmed A card n
+calmed_all A card n calm k l g = calm (k, g.0, g.2, g.3)
+
+-- what the stages for one goal ask of a settled table
+module _ {A : Algebra} {C : Type 0} (value : C → A.Value) (n : ℕ) (card : ℕ → ℕ → Option A.Value) (cells : List (Cell C)) (s : Settled A value n card cells) where
+  pub settled_calm : Calmed A (cards_in A value n cells) n
+  settled_calm = subst (λ f. Calmed A f n) (sym s.cards) (calmed_all A card n s.calm)
+
+  pub settled_low : FirstDone A value n (cards_in A value n cells) cells
+  settled_low = subst (λ f. FirstDone A value n f cells) (sym s.cards) s.low
 
 module _ {A : Algebra} (L : Lawful A) {C : Type 0} (value : C → A.Value) (n : ℕ) (card : ℕ → ℕ → Option A.Value) (cells : List (Cell C)) (h : ℕ) (back : Back A value n card cells h) where
   -- the table as it is traced from
   pub back_calm : Gains A (cards_in A value n cells) → ⊥
-  back_calm = subst (λ f. Gains A f → ⊥) (sym back.settled.cards) back.settled.calm
+  back_calm = subst (λ f. Gains A f → ⊥) (sym back.cards) back.calm
 
-  pub back_least : (v : ℕ) → v < n → (v ≡ h → ⊥) → Least A (cards_in A value n cells) v h (least_in A value n cells v h)
-  back_least v l ne = subst (λ f. Least A f v h (least_in A value n cells v h)) (sym back.settled.cards) (back.settled.least v h l back.inside ne)
+  pub back_least : (v : ℕ) → v < n → (v ≡ h → ⊥) → Least A (cards_in A value n cells) v h (least_in A value n cells v v)
+  back_least v l ne = subst (λ f. Least A f v h (least_in A value n cells v v)) (sym back.cards) (back.least v l ne)
 
-  pub turns_near : (v : ℕ) → v < h → Near A n (least_in A value n cells v h)
+  pub turns_near : (v : ℕ) → v < h → Near A n (least_in A value n cells v v)
   turns_near v l x e =
       let ne : v ≡ h → ⊥ = λ d. absurd (omega arith) in
       let small = back.sound.small in
       let inside = back.inside in
       L.within_more (n - 1) (suc n) x (omega arith) (omega arith)
-      (least_is_near L n (upto h card) back.sound back.settled.calm v h ne x (subst (Least A (upto h card) v h) e (back.settled.least v h (omega arith) inside ne)))
+      (least_is_near L n (upto h card) back.sound back.calm v h ne x (subst (Least A (upto h card) v h) e (back.least v (omega arith) ne)))
 
   -- a closed walk at h goes out of h by a card and then up to h, where the least cost is at most as much
   pub turns_some : ((x : A.Value) → card h h ≡ Some x → ⊥) → GainsAt A card h → (v : ℕ) × (v < h) × Turns A value n card cells h v
@@ -61,7 +68,7 @@ module _ {A : Algebra} (L : Lawful A) {C : Type 0} (value : C → A.Value) (n : 
           let l = below.0 in
           let inside = back.inside in
           let w = of_runs L (upto h card) v ms h b (runs_upto L h card v ms b l below.1 rest) in
-          let s = least_serves L (WalkCosts A (upto h card) v h) _ (back.settled.least v h (omega arith) inside (λ d. absurd (omega arith))) b (ms, w.0, w.1) in
+          let s = least_serves L (WalkCosts A (upto h card) v h) _ (back.least v (omega arith) (λ d. absurd (omega arith))) b (ms, w.0, w.1) in
           (v, l, (A.join a s.0, (a, s.0, out, s.1, refl), at_most_under L (A.join a s.0) x A.unit (at_most_front L a s.0 b x s.2 e) under))
 
   -- `next` leads from v to h at the cost o over the cards f
@@ -73,7 +80,7 @@ module _ {A : Algebra} (L : Lawful A) {C : Type 0} (value : C → A.Value) (n : 
       (ms : List ℕ) × Loop A card h (v ∷ ms) × A.Under (cost A card (path h (v ∷ ms) h)) A.unit × Follows next h v (path v ms h) × LeadsIn most_formats next h v
   turns_loop next v (l, (x, (a, b, ea, eb, ex), under)) traced =
       let inside = back.inside in
-      let by = subst (λ f. By f next v (least_in A value n cells v h)) back.settled.cards (traced v (omega arith) (λ d. absurd (omega arith))) in
+      let by = subst (λ f. By f next v (least_in A value n cells v v)) back.cards (traced v (omega arith) (λ d. absurd (omega arith))) in
       let (ms, chain, costs, follows) = subst (By (upto h card) next v) eb by in
       let rest = (upto_runs L h card v ms h _ (to_runs L (upto h card) v ms h chain.0)).2 in
       let q = of_runs L card h (v ∷ ms) h x (a, b, ea, subst (Runs A card v ms h) costs rest, ex) in

@@ -28,7 +28,7 @@ module _ (A : Algebra) {C : Type 0} (value : C → A.Value) (n : ℕ) (cells : L
   abbrev pub cards_in : ℕ → ℕ → Option A.Value
   cards_in s t = cond (nat_lt s n && (nat_lt t n && not (s == t))) (option_map value (cell n cells s t).card) None
 
-  -- the least cost that was found from s to t
+  -- the least cost that was found from s to t, or, where they are the same, from s to a goal
   abbrev pub least_in : ℕ → ℕ → Option A.Value
   least_in s t = option_map value (cell n cells s t).least
 

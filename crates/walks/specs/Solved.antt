@@ -1,13 +1,13 @@
--- A register's cards brought to least costs in a table of cells, and a loop that undercuts the unit.
+-- What is found of a register's cards in a table of cells: the costs of the first stage, or a loop that undercuts the unit.
 -- `card` is the cost of the card between two formats, by what it means.
 use Rattle.std.specs.Prelude.{◌≡◌, ℕ, ◌<◌, ◌≤◌, true, cond, ◌&&◌, List, IfSome, Some, None, Option, nat_le, nat_lt}
 use Rattle.std.specs.Option.{option_map}
 use Rattle.costs.specs.Algebra.{Algebra}
-use Rattle.walks.specs.Walk.{path, cost, Loop, Least, Gains}
+use Rattle.walks.specs.Walk.{path, cost, Loop, Gains}
 use Rattle.walks.specs.Theorems.{Sound}
-use Rattle.walks.specs.Cells.{cards_in, least_in, Laid, Each}
+use Rattle.walks.specs.Cells.{cards_in, least_in, Laid}
 use Rattle.registers.specs.Meaning.{most_formats}
-use Rattle.walks.specs.Eliminated.{Looked, UndercutUnit}
+use Rattle.walks.specs.Eliminated.{FirstDone, Looked, ThirdDone, UndercutUnit}
 use Rattle.walks.specs.Sheet.{row_of, put_row}
 use Rattle.walks.specs.declared.cells.Cell.{Cell}
 
@@ -29,25 +29,28 @@ module _ (A : Algebra) where
       pub admitted : IfSome o (λ x. A.admits x ≡ true)
 
     module _ (n : ℕ) (card : ℕ → ℕ → Option A.Value) (cells : List (Cell C)) where
-      -- no closed walk undercuts the unit, and the table has the cards and each cell's least cost
+      -- no closed walk undercuts the unit, and the table has the cards and each cell's cost as the first stage leaves it
       pub record Settled : Type 0 where
         pub calm : Gains A card → ⊥
         pub laid : Laid A value n cells
         pub cards : cards_in A value n cells ≡ card
-        pub least : Each A value n cells (λ s t. Least A card s t)
+        pub low : FirstDone A value n card cells
 
-      -- what the search has found: the lowest format at which a closed walk through lower ones undercuts the unit, or each cell's least cost
+      -- what the search has found: the lowest format at which a closed walk through lower ones undercuts the unit, or none such
       abbrev pub Solved : Option ℕ → Type 0
       Solved (Some h) = Looked A card n (Some h)
       Solved None = Settled
 
-      -- the card from h to v and the least cost back undercut the unit together
+      -- the card from h to v and the least cost back, which the diagonal cell of v has, undercut the unit together
       abbrev pub Turns : ℕ → ℕ → Type 0
-      Turns h v = UndercutUnit A (card h v) (least_in A value n cells v h)
+      Turns h v = UndercutUnit A (card h v) (least_in A value n cells v v)
 
-    -- the table has the least costs over the cards up to h, so those back to h from the lower formats
+    -- no closed walk over the cards up to h undercuts the unit, and the table has these cards and their least costs back to h
     pub record Back (n : ℕ) (card : ℕ → ℕ → Option A.Value) (cells : List (Cell C)) (h : ℕ) : Type 0 where
       pub inside : h < n
       pub few : n ≤ most_formats
       pub sound : Sound A n (upto h card)
-      pub settled : Settled n (upto h card) cells
+      pub calm : Gains A (upto h card) → ⊥
+      pub laid : Laid A value n cells
+      pub cards : cards_in A value n cells ≡ upto h card
+      pub least : ThirdDone A value n (upto h card) cells h

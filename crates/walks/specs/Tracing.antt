@@ -54,17 +54,17 @@ pub record Wider (before after : List Bool) (joined longer : List ℕ) : Type 0 
   pub front : (k : ℕ) → k < length joined → slice_index longer k ≡ slice_index joined k
 
 module _ (A : Algebra) {C : Type 0} (value : C → A.Value) (n : ℕ) (cells : List (Cell C)) (goal : ℕ) where
-  -- the least cost from v to the goal, the unit at the goal itself
+  -- the least cost from v to the goal, the unit at the goal itself: a format's diagonal cell has its own
   abbrev pub to_goal : ℕ → Option A.Value
-  to_goal v = cond (v == goal) (Some A.unit) (cond (nat_lt v n) (least_in A value n cells v goal) None)
+  to_goal v = cond (v == goal) (Some A.unit) (cond (nat_lt v n) (least_in A value n cells v v) None)
 
-  -- the table has the least costs to the goal, and no closed walk gains
+  -- the diagonal of the table has the least costs to the goal, and no closed walk gains
   pub record Ready : Type 0 where
     pub laid : Laid A value n cells
     pub few : n ≤ most_formats
     pub inside : goal < n
     pub calm : Gains A (cards_in A value n cells) → ⊥
-    pub least : (v : ℕ) → v < n → (v ≢ goal) → Least A (cards_in A value n cells) v goal (least_in A value n cells v goal)
+    pub least : (v : ℕ) → v < n → (v ≢ goal) → Least A (cards_in A value n cells) v goal (least_in A value n cells v v)
 
   -- the card from v to w is tight on the way to the goal
   abbrev pub TightIn : ℕ → ℕ → Type 0
@@ -92,5 +92,5 @@ module _ (A : Algebra) {C : Type 0} (value : C → A.Value) (n : ℕ) (cells : L
   abbrev pub Traced : List ℕ → ℕ → Type 0
   Traced next v =
       let card : ℕ → ℕ → Option A.Value = cards_in A value n cells in
-      MatchOption (least_in A value n cells v goal) ((x : A.Value) → WalkCosts A card v goal x → ⊥)
+      MatchOption (least_in A value n cells v v) ((x : A.Value) → WalkCosts A card v goal x → ⊥)
       (λ x. (ms : List ℕ) × Chain A card (path v ms goal) × (cost A card (path v ms goal) ≡ x) × Follows next goal v (path v ms goal))

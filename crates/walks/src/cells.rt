@@ -6,7 +6,7 @@ ghost use Rattle.walks.specs.Cells.{cell, empty};
 use costs::Cost;
 
 // One cell of a working table, for two formats: the card between them, and the least cost from the first to the second that
-// was found so far.
+// was found so far. Of one format with itself: the least cost from it to a goal.
 #[derive(Clone, Copy, Debug, PartialEq, Eq)]
 pub struct Cell<C> {
     pub card: Option<C>,

@@ -1,4 +1,4 @@
-// The search of a register's cards: their least costs in a table of cells, or a loop that undercuts the unit.
+// The search of a register's cards: least costs through low formats in a table of cells, or a loop that undercuts the unit.
 ghost use Rattle.std.specs.Prelude.{◌≡◌, ℕ, ◌*◌, ◌/◌, ◌%◌, ◌<◌, ◌≤◌, true, length, Decides, IfSome, Some, slice_index_or};
 ghost use Rattle.std.specs.Option.{option_map};
 ghost use Rattle.registers.specs.Meaning.{meant, standing};
@@ -9,7 +9,7 @@ ghost use Rattle.walks.specs.Tracing.{Clear};
 ghost use Rattle.walks.specs.Solved.{upto, Back, Fresh, Solved, Turns, LoopWritten};
 
 use crate::cells::{Cell, cell_at};
-use crate::eliminate::{first_stage, second_stage, third_stage, undercut_unit};
+use crate::eliminate::{first_stage, solve_to, undercut_unit};
 use crate::rows::write_round;
 use crate::trail::trace;
 use costs::Cost;
@@ -41,20 +41,15 @@ fn load<R: Register>(register: &R, cells: &mut [Cell<R::Cost>], n: usize, high: 
     }
 }
 
-// Brings a table in which each cell's least cost is its card's to least costs, unless a closed walk undercuts the unit: then
-// answers the lowest format at which one through lower formats does.
+// Brings a table in which each cell's least cost is its card's to least costs over formats below both of a cell's own, unless a
+// closed walk undercuts the unit: then answers the lowest format at which one through lower formats does.
 fn settle<C: Cost>(cells: &mut [Cell<C>], n: usize) -> Option<usize>
     requires laid { Laid C.Cost.algebra C.Cost.value n cells.old }
     requires fresh { Each C.Cost.algebra C.Cost.value n cells.old (λ s t o. o ≡ cards_in C.Cost.algebra C.Cost.value n cells.old s t) }
     ensures kept { Kept n cells.old cells.new }
     ensures solved { Solved C.Cost.algebra C.Cost.value n (cards_in C.Cost.algebra C.Cost.value n cells.old) cells.new result }
 {
-    if let Some(h) = first_stage(cells, n) {
-        return Some(h);
-    }
-    second_stage(cells, n);
-    third_stage(cells, n);
-    None
+    first_stage(cells, n)
 }
 
 // The same for the register's cards that lead from a format below `high` to one up to it.
@@ -75,8 +70,8 @@ fn solve_upto<R: Register>(
     settle(cells, n)
 }
 
-// Brings the register's cards to least costs in the table of cells, unless a closed walk undercuts the unit: then answers the
-// lowest format at which one through lower formats does.
+// Brings the register's cards to least costs over formats below both of a cell's own in the table of cells, unless a closed
+// walk undercuts the unit: then answers the lowest format at which one through lower formats does.
 pub fn solve<R: Register>(register: &R, cells: &mut [Cell<R::Cost>]) -> Option<usize>
     requires room { (R.Register.holds register.now).size * (R.Register.holds register.now).size ≤ length cells.old }
     ensures beyond { Beyond ((R.Register.holds register.now).size * (R.Register.holds register.now).size) cells.old cells.new }
@@ -93,7 +88,7 @@ fn turns<R: Register>(register: &R, cells: &[Cell<R::Cost>], n: usize, h: usize,
     requires lower { v < h }
     ensures { Decides result (Turns R.Cost.Cost.algebra R.Cost.Cost.value n (standing (meant R.Cost.Cost.value (R.Register.holds register.now))) cells.now h v) }
 {
-    undercut_unit(register.card(h, v), cell_at(cells, n, v, h).least)
+    undercut_unit(register.card(h, v), cell_at(cells, n, v, v).least)
 }
 
 // A format below `h` such that the card from `h` to it and the least cost back undercut the unit together.
@@ -105,8 +100,8 @@ fn way_out<R: Register>(register: &R, cells: &[Cell<R::Cost>], n: usize, h: usiz
     (0..h).find(|v| turns(register, cells, n, h, *v)).unwrap()
 }
 
-// Brings the register's cards up to `h` to least costs in the table of cells, where `h` is what `solve` answered: no card leads
-// out of `h` among them, so no closed walk over them undercuts the unit.
+// Brings the register's cards up to `h` to their least costs back to `h` in the table of cells, where `h` is what `solve`
+// answered: no card leads out of `h` among them, so no closed walk over them undercuts the unit.
 fn solve_back<R: Register>(register: &R, cells: &mut [Cell<R::Cost>], n: usize, h: usize)
     requires room { n * n ≤ length cells.old }
     requires size { n ≡ (R.Register.holds register.now).size }
@@ -116,6 +111,7 @@ fn solve_back<R: Register>(register: &R, cells: &mut [Cell<R::Cost>], n: usize, 
     ensures back { Back R.Cost.Cost.algebra R.Cost.Cost.value n (standing (meant R.Cost.Cost.value (R.Register.holds register.now))) cells.new h }
 {
     let _ = solve_upto(register, cells, n, h);
+    solve_to(cells, n, h);
 }
 
 // Writes into row 0 of the sheet a loop at `h` that undercuts the unit, where `h` is what `solve` answered.

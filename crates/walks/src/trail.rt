@@ -1,4 +1,4 @@
-// Chains of least cost to a goal, read from a table of least costs.
+// Chains of least cost to a goal, read from a table whose diagonal has each format's least cost to it.
 ghost use Rattle.std.specs.Prelude.{◌≡◌, ℕ, Some, ◌==◌, ◌+◌, ◌<◌, ◌≤◌, true, false, [], ◌∷◌, ◌++◌, length, MatchOption, Decides, ◌≢◌, slice_index, slice_index_or, slice_set};
 ghost use Rattle.std.specs.Option.{option_map};
 ghost use Rattle.walks.specs.Cells.{Laid, cards_in, least_in};
@@ -106,7 +106,7 @@ fn same<C: Cost>(one: C, other: C) -> bool
     !one.undercuts(other) && !other.undercuts(one)
 }
 
-// A table of least costs, seen from the goal of a trace.
+// A table whose diagonal has the least costs to the goal of a trace.
 #[derive(Drop)]
 struct Aim<'a, C: Cost> {
     cells: &'a [Cell<C>],
@@ -127,7 +127,7 @@ impl<C: Cost> Aim<'_, C> {
         if to == self.goal {
             Some(C::unit())
         } else {
-            cell_at(self.cells, self.n, to, self.goal).least
+            cell_at(self.cells, self.n, to, to).least
         }
     }
 
@@ -141,7 +141,7 @@ impl<C: Cost> Aim<'_, C> {
         let Some(card) = cell_at(self.cells, self.n, from, to).card else {
             return false;
         };
-        let Some(whole) = cell_at(self.cells, self.n, from, self.goal).least else {
+        let Some(whole) = cell_at(self.cells, self.n, from, from).least else {
             return false;
         };
         same(card.join(onward), whole)
@@ -209,7 +209,7 @@ pub fn trace<C: Cost>(
     requires few { n ≤ 64 }
     requires inside { goal < n }
     requires calm { Gains C.Cost.algebra (cards_in C.Cost.algebra C.Cost.value n cells.now) → ⊥ }
-    requires least { (v : ℕ) → v < n → (v ≢ goal) → Least C.Cost.algebra (cards_in C.Cost.algebra C.Cost.value n cells.now) v goal (least_in C.Cost.algebra C.Cost.value n cells.now v goal) }
+    requires least { (v : ℕ) → v < n → (v ≢ goal) → Least C.Cost.algebra (cards_in C.Cost.algebra C.Cost.value n cells.now) v goal (least_in C.Cost.algebra C.Cost.value n cells.now v v) }
     requires clear { Clear sheet.old }
     ensures clear { Clear sheet.new }
     ensures traced { (v : ℕ) → v < n → (v ≢ goal) → Traced C.Cost.algebra C.Cost.value n cells.now goal next.new v }

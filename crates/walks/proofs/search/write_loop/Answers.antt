@@ -12,7 +12,7 @@ trace-requires g c =
     let L = g.met.R.Cost.Cost.lawful in
     let back = c.solve_back.ensures.back in
     record {
-      laid = back.settled.laid;
+      laid = back.laid;
       few = back.few;
       inside = back.inside;
       calm = back_calm L _ _ _ _ _ back;

@@ -18,6 +18,14 @@ use Rattle.bay.proofs.bays.Bay.route.Goals as goal
 pub write_loop-requires-clause-clear : goal.write_loop-requires-clause-clear
 write_loop-requires-clause-clear g c = none_ticked 64
 
+pub invariant_of-page : goal.invariant_of-page
+invariant_of-page g c =
+    let legs = booked c.args.self.now.legs in
+    let n = (g.R.Register.holds c.args.self.now.register).size in
+    let enough = room_enough (length (map ends legs)) n (length c.args.table.now) (length c.args.costs.now) (length c.args.chains.now) c.in_ok-judge_route.ensures in
+    let count = length-map legs ends in
+    record { entries = omega (arith, enough.costs, count); rows = omega (arith, enough.rows, count) }
+
 pub write_routes-requires-clause-clear : goal.write_routes-requires-clause-clear
 write_routes-requires-clause-clear g c = none_ticked 64
 
@@ -60,7 +68,7 @@ returns-in-None g c =
     let wrote = c.write_routes.ensures in
     let count = sym (length-map legs ends) in
     let cards = settled_cards value n c.size-n.result c.size-n.ensures.value (standing p.register) c.solve.new.cells told.solved in
-    let granted : Granted A value p before (record { legs = now.legs; table = c.solve.new.cells; costs = now.costs; chains = now.chains }) (Ok c.len.result) = record {
+    let granted : Granted A value p before (record { legs = now.legs; table = c.write_routes.new.table; costs = now.costs; chains = now.chains }) (Ok c.len.result) = record {
       no_cause = sym c.in_ok-judge_route.ensures;
       answers = ap Ok (c.len.ensures.value ∙ wrote.legs ∙ count);
       no_loop = told.solved.calm;
@@ -69,9 +77,9 @@ returns-in-None g c =
       costs = subst (λ k. Beyond k c.args.costs.now now.costs) count wrote.costs;
       legs = wrote.legs;
       notes = λ k h. wrote.notes k (omega (arith, count));
-      table = told.beyond;
+      table = beyond_then (n * n) c.args.table.now c.solve.new.cells c.write_routes.new.table told.beyond (subst (λ k. Beyond (k * k) c.solve.new.cells c.write_routes.new.table) c.size-n.ensures.value wrote.kept.beyond);
     } in
     record {
-      answer = lent_back (λ costs chains. RouteAnswer A value p before (record { legs = now.legs; table = c.solve.new.cells; costs = costs; chains = chains }) (Ok c.len.result)) (inr (inr granted)) (search rules) (search rules);
+      answer = lent_back (λ costs chains. RouteAnswer A value p before (record { legs = now.legs; table = c.write_routes.new.table; costs = costs; chains = chains }) (Ok c.len.result)) (inr (inr granted)) (search rules) (search rules);
       same = λ i. record { register = p.register; legs = ends_renoted legs now.legs (λ k. note_of (row_at now.chains k)) wrote.legs wrote.notes i };
     }

@@ -1,10 +1,24 @@
-use Rattle.std.proofs.Common.{◌+◌, get_or, sym, ap, ◌∙◌, subst, arith}
+use Rattle.std.proofs.Common.{◌≡◌, ◌+◌, ◌<◌, get_or, get_or-take, sym, ap, ◌∙◌, subst, arith}
 use Rattle.walks.specs.Cells.{cards_in}
+use Rattle.walks.specs.Tracing.{Traced}
 use Rattle.bay.specs.Leg.{no_leg}
 use Rattle.bay.specs.Lent.{SameLent, page_of}
+use Rattle.bay.proofs.LegSteps.{length_booked}
 use Rattle.bay.proofs.PlaceSteps.{Serving, lent_then, same_number, serving_passes, serving_more}
 use Rattle.bay.proofs.writing.Page.write_goal.Goals as goal
 use Rattle.bay.proofs.writing.Page.write_goal.Goals.{then-leg-goal, else-leg-goal}
+
+-- the two ends of a leg are different, so the format where the leg begins is not the goal
+pub write_leg-requires-clause-traced : goal.write_leg-requires-clause-traced
+write_leg-requires-clause-traced g c l =
+    let legs = c.loop-k.self.legs.now in
+    let leg = get_or c.as_slice.result.now c.loop-k.k no_leg in
+    let few = same_number (page_of c.args.self.now) (page_of c.loop-k.self) c.loop-k.invariant.0.written in
+    let inside : c.loop-k.k < legs.count = omega (arith, few, length_booked legs, c.len-k-end.ensures.value) in
+    let is : leg ≡ get_or legs.list c.loop-k.k no_leg = ap (λ list. get_or list c.loop-k.k no_leg) c.as_slice.ensures ∙ get_or-take legs.count legs.list c.loop-k.k no_leg inside in
+    let apart = subst (λ l. l.from ≡ l.to → ⊥) (sym is) (legs.apart c.loop-k.k inside) in
+    subst (λ t. Traced g.C.Cost.algebra g.C.Cost.value c.args.n c.args.table.now t c.args.next.now leg.from) (sym c.if-leg-goal.true)
+    (c.requires.traced leg.from l (λ e. apart (e ∙ sym c.if-leg-goal.true)))
 
 pub loop-k-preserved : goal.loop-k-preserved
 loop-k-preserved g c =

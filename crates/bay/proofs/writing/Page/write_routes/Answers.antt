@@ -1,37 +1,95 @@
+-- The cards of the table stay, so what is written for each goal is about the cards at entry.
 use Rattle.std.proofs.Common.{◌≡◌, ◌+◌, sym, subst, arith}
-use Rattle.walks.specs.Cells.{cards_in}
+use Rattle.walks.specs.Cells.{Kept, cards_in}
+use Rattle.walks.specs.Eliminated.{FirstDone}
 use Rattle.walks.specs.Tracing.{Clear}
+use Rattle.walks.proofs.Passes.{cards_kept, kept_then}
 use Rattle.bay.specs.Lent.{SameLent, page_of}
+use Rattle.bay.specs.Places.{Served}
 use Rattle.bay.proofs.PlaceSteps.{Progress, lent_then, progress_passes, progress_more, progress_since, same_number}
 use Rattle.bay.proofs.RouteSteps.{all_routed, all_noted}
+use Rattle.bay.proofs.TableSteps.{kept_calm, kept_calmed, kept_laid, kept_least, kept_low, low_kept}
 use Rattle.bay.proofs.writing.Page.write_routes.Goals as goal
 use Rattle.bay.proofs.writing.Page.write_routes.Goals.{then-leads_to, else-leads_to}
 
+pub solve_to-requires : goal.solve_to-requires
+solve_to-requires g c =
+    let A = g.C.Cost.algebra in
+    let value = g.C.Cost.value in
+    let (progress, lent, clear, kept, low) = c.loop-goal.invariant in
+    record {
+      laid = kept_laid A value c.args.n _ _ kept c.requires.laid;
+      calm = kept_calmed A value c.args.n _ _ kept c.requires.calm;
+      inside = c.loop-goal-test.true;
+      low = kept_low A value c.args.n _ _ kept low;
+    }
+
+pub trace-requires : goal.trace-requires
+trace-requires g c =
+    let A = g.C.Cost.algebra in
+    let value = g.C.Cost.value in
+    let (progress, lent, clear, before, low) = c.loop-goal.invariant in
+    let kept = kept_then c.args.n _ _ _ before c.solve_to.ensures.kept in
+    record {
+      laid = kept_laid A value c.args.n _ _ kept c.requires.laid;
+      few = c.requires.few;
+      inside = c.loop-goal-test.true;
+      calm = kept_calm A value c.args.n _ _ kept c.requires.calm;
+      least = kept_least A value c.args.n _ _ c.solve_to.ensures.kept c.loop-goal.goal c.solve_to.ensures.least;
+      clear = clear;
+    }
+
+pub write_goal-requires : goal.write_goal-requires
+write_goal-requires g c =
+    let A = g.C.Cost.algebra in
+    let value = g.C.Cost.value in
+    let (progress, lent, clear, before, low) = c.loop-goal.invariant in
+    let kept = kept_then c.args.n _ _ _ before c.solve_to.ensures.kept in
+    record {
+      laid = kept_laid A value c.args.n _ _ kept c.requires.laid;
+      few = c.requires.few;
+      inside = c.loop-goal-test.true;
+      least = kept_least A value c.args.n _ _ c.solve_to.ensures.kept c.loop-goal.goal c.solve_to.ensures.least;
+      traced = c.trace.ensures.traced;
+      awaits = λ k l e. progress.later k l (omega arith);
+    }
+
 pub loop-goal-preserved : goal.loop-goal-preserved
 loop-goal-preserved g c =
-    let (progress, lent, clear) = c.loop-goal.invariant in
+    let (progress, lent, clear, kept, low) = c.loop-goal.invariant in
+    let A = g.C.Cost.algebra in
+    let value = g.C.Cost.value in
+    let n = c.args.n in
     let first = c.clear.new.self in
     let now = page_of c.loop-goal.self in
-    let card = cards_in g.C.Cost.algebra g.C.Cost.value c.args.n c.args.table.now in
+    let entry = c.args.table.now in
+    let card = cards_in A value n entry in
     elim c.if-leads_to.branch [
       | then-leads_to w ↦
           let told = w.write_goal.ensures in
-          subst (λ p. Progress g.C.Cost.algebra g.C.Cost.value card (page_of first) (page_of p) (c.loop-goal.goal + 1) × SameLent first p × Clear c.if-leads_to.ticks) (sym w.self-is) (
-            progress_more g.C.Cost.algebra g.C.Cost.value card (page_of first) now c.loop-goal.goal progress (page_of w.write_goal.new.self) _ told.written told.spares told.served,
+          let solved = w.solve_to.ensures in
+          let all = kept_then n entry c.loop-goal.table w.solve_to.new.cells kept solved.kept in
+          let served = subst (λ f. Served A value f w.trace.new.next c.loop-goal.goal (page_of w.write_goal.new.self)) (cards_kept A value n entry w.solve_to.new.cells all) told.served in
+          subst (λ p. Progress A value card (page_of first) (page_of p) (c.loop-goal.goal + 1) × SameLent first p × Clear c.if-leads_to.ticks × Kept n entry c.if-leads_to.table × FirstDone A value n card c.if-leads_to.table) (sym w.self-is) (
+            progress_more A value card (page_of first) now c.loop-goal.goal progress (page_of w.write_goal.new.self) _ told.written told.spares served,
             lent_then first c.loop-goal.self w.write_goal.new.self lent told.lent,
             subst Clear (sym w.ticks-is) w.trace.ensures.clear,
+            subst (Kept n entry) (sym w.table-is) all,
+            subst (FirstDone A value n card) (sym w.table-is) (low_kept A value n entry c.loop-goal.table kept w.solve_to.new.cells solved.low),
           )
       | else-leads_to w ↦
-          subst (λ p. Progress g.C.Cost.algebra g.C.Cost.value card (page_of first) (page_of p) (c.loop-goal.goal + 1) × SameLent first p × Clear c.if-leads_to.ticks) (sym w.self-is) (
-            progress_passes g.C.Cost.algebra g.C.Cost.value card (page_of first) now c.loop-goal.goal progress (c.leads_to.ensures w.if-leads_to.false),
+          subst (λ p. Progress A value card (page_of first) (page_of p) (c.loop-goal.goal + 1) × SameLent first p × Clear c.if-leads_to.ticks × Kept n entry c.if-leads_to.table × FirstDone A value n card c.if-leads_to.table) (sym w.self-is) (
+            progress_passes A value card (page_of first) now c.loop-goal.goal progress (c.leads_to.ensures w.if-leads_to.false),
             lent,
             subst Clear (sym w.ticks-is) clear,
+            subst (Kept n entry) (sym w.table-is) kept,
+            subst (FirstDone A value n card) (sym w.table-is) low,
           )
     ]
 
 pub returns : goal.returns
 returns g c =
-    let (progress, lent, clear) = c.loop-goal.invariant in
+    let (progress, lent, clear, kept, low) = c.loop-goal.invariant in
     let before = page_of c.args.self.now in
     let now = page_of c.loop-goal.self in
     let card = cards_in g.C.Cost.algebra g.C.Cost.value c.args.n c.args.table.now in
@@ -46,5 +104,6 @@ returns g c =
       costs = all.written.costs;
       legs = same_number before now all.written;
       notes = all_noted g.met.C.Cost.lawful g.C.Cost.value c.args.n c.args.table.now c.requires.laid before now all;
+      kept = kept;
       clear = clear;
     }
