@@ -27,17 +27,27 @@ fn card_upto<R: Register>(register: &R, high: usize, s: usize, t: usize) -> Opti
     }
 }
 
-// Sets every cell to the register's card, where that leads from a format below `high` to one up to it, else to none.
+// Sets the cells of `s` to its cards, where they lead from a format below `high` to one up to it, else to none.
+fn load_row<R: Register>(register: &R, row: &mut [Cell<R::Cost>], s: usize, high: usize)
+    ensures long { length row.new ≡ length row.old }
+    ensures loaded { (t : ℕ) → t < length row.old → Fresh R.Cost.Cost.algebra R.Cost.Cost.value (upto high (standing (meant R.Cost.Cost.value (R.Register.holds register.now))) s t) (slice_index_or row.new t empty) }
+{
+    for (t, cell) in row.iter_mut().enumerate() {
+        let card = card_upto(register, high, s, t);
+        *cell = Cell { card, least: card };
+    }
+}
+
+// Sets every cell to the register's card, where that leads from a format below `high` to one up to it, else to none. Row by
+// row, since a division for each cell would take longer than all else.
 fn load<R: Register>(register: &R, cells: &mut [Cell<R::Cost>], n: usize, high: usize)
     requires room { n * n ≤ length cells.old }
     requires few { (0 < n) × (n ≤ 64) }
     ensures beyond { Beyond (n * n) cells.old cells.new }
     ensures loaded { (k : ℕ) → k < n * n → Fresh R.Cost.Cost.algebra R.Cost.Cost.value (upto high (standing (meant R.Cost.Cost.value (R.Register.holds register.now))) (k / n) (k % n)) (slice_index_or cells.new k empty) }
 {
-    let table = &mut cells[..n * n];
-    for (k, cell) in table.iter_mut().enumerate() {
-        let card = card_upto(register, high, k / n, k % n);
-        *cell = Cell { card, least: card };
+    for s in 0..n {
+        load_row(register, &mut cells[s * n..s * n + n], s, high);
     }
 }
 

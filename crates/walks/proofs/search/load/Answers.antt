@@ -1,17 +1,25 @@
--- One cell after the other is loaded.
-use Rattle.std.proofs.Common.{◌∙◌, arith}
-use Rattle.std.proofs.lemmas.List.{length-take-le}
+-- One row after the other is loaded.
+use Rattle.std.proofs.Common.{◌≡◌, ◌+◌, ◌-◌, ◌*◌, ◌≤◌, length, drop, arith}
+use Rattle.std.proofs.lemmas.List.{length-take-le, length-drop}
 use Rattle.registers.specs.Meaning.{meant, standing}
 use Rattle.walks.specs.Solved.{upto}
-use Rattle.walks.proofs.Loaded.{beyond_front, fresh_made, loaded_more}
+use Rattle.walks.proofs.Loaded.{beyond_part, loaded_row}
+use Rattle.walks.proofs.Passes.{place_lt}
 use Rattle.walks.proofs.search.load.Goals as goal
 
-pub loop-k-preserved : goal.loop-k-preserved
-loop-k-preserved g c =
+pub loop-s-preserved : goal.loop-s-preserved
+loop-s-preserved g c =
     let A = g.R.Cost.Cost.algebra in
     let value = g.R.Cost.Cost.value in
+    let n = c.args.n in
+    let s = c.loop-s.s in
     let card = upto c.args.high (standing (meant value (g.R.Register.holds c.args.register.now))) in
-    loaded_more A value c.args.n card _ _ _ (omega arith) (fresh_made A value _ _ c.card_upto-card.ensures.value c.card_upto-card.ensures.admitted) c.loop-k.invariant
-
-pub returns-clause-beyond : goal.returns-clause-beyond
-returns-clause-beyond g c = beyond_front _ c.args.cells.now c.loop-k.table (c.loop-k.auto.table ∙ length-take-le _ _ c.requires.room) c.requires.room
+    let was = c.loop-s.invariant.0 in
+    let row = c.load_row.new.row in
+    let inside : s * n + n ≤ n * n = omega (arith, c.requires.few.0, place_lt n s (n - 1) c.loop-s-test.true (omega (arith, c.requires.few.0))) in
+    let part = length-take-le (s * n + n - s * n) (drop (s * n) c.loop-s.cells) (omega (arith, length-drop (s * n) c.loop-s.cells, inside, was.long, c.requires.room)) in
+    let long : length row ≡ n = omega (arith, c.load_row.ensures.long, part) in
+    (
+      beyond_part (n * n) (s * n) (s * n + n) _ c.loop-s.cells row (omega arith) inside c.requires.room (omega (arith, long)) was,
+      loaded_row A value n card s c.loop-s.cells row long (omega (arith, inside, was.long, c.requires.room)) (λ t b. c.load_row.ensures.loaded t (omega (arith, b, part))) c.loop-s.invariant.1,
+    )
