@@ -26,7 +26,7 @@ pub beyond_part : {C : Type 0} (k a b : ℕ) (before cells row : List (Cell C)) 
 beyond_part k a b before cells row le inside room long was =
     let front : length (take a cells ++ row) ≡ b = omega (arith, length-append (take a cells) row, length-take-le a cells (omega (arith, was.long))) in
     let is : put_mid a (b - a) cells row ≡ (take a cells ++ row) ++ drop b cells =
-        ap (λ rest. take a cells ++ (row ++ rest)) (Post-is a b cells le) ∙ sym (append_assoc (take a cells) row (drop b cells)) in
+    ap (λ rest. take a cells ++ (row ++ rest)) (Post-is a b cells le) ∙ sym (append_assoc (take a cells) row (drop b cells)) in
     let now = beyond_front b cells (take a cells ++ row) front (omega (arith, was.long)) in
     subst (Beyond k before) (sym is) (beyond_then k before cells _ was (record { long = now.long; same = λ j d m. now.same j d (omega arith) }))
 
@@ -75,7 +75,7 @@ module _ (A : Algebra) {C : Type 0} (value : C → A.Value) (n : ℕ) (card : �
   loaded_row s cells row long room fresh l =
       let next : s * n + n ≡ (s + 1) * n = omega arith in
       let is : put_mid (s * n) (s * n + n - s * n) cells row ≡ take (s * n) cells ++ (row ++ drop (s * n + n) cells) =
-          ap (λ rest. take (s * n) cells ++ (row ++ rest)) (Post-is (s * n) (s * n + n) cells (omega arith)) in
+      ap (λ rest. take (s * n) cells ++ (row ++ rest)) (Post-is (s * n) (s * n + n) cells (omega arith)) in
       subst₂ LoadedTo next (sym is)
       (first_row (λ j. Fresh A value (card (j / n) (j % n))) empty (s * n) cells l n row long room (λ t b. subst₂ (λ a b. Fresh A value (card a b) (get_or row t empty)) (sym (div-mul-add s n t b)) (sym (mod-mul-add s n t b)) (fresh t b)))
 

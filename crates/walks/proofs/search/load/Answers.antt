@@ -18,8 +18,7 @@ loop-s-preserved g c =
     let row = c.load_row.new.row in
     let inside : s * n + n ≤ n * n = omega (arith, c.requires.few.0, place_lt n s (n - 1) c.loop-s-test.true (omega (arith, c.requires.few.0))) in
     let part = length-take-le (s * n + n - s * n) (drop (s * n) c.loop-s.cells) (omega (arith, length-drop (s * n) c.loop-s.cells, inside, was.long, c.requires.room)) in
-    let long : length row ≡ n = omega (arith, c.load_row.ensures.long, part) in
-    (
+    let long : length row ≡ n = omega (arith, c.load_row.ensures.long, part) in (
       beyond_part (n * n) (s * n) (s * n + n) _ c.loop-s.cells row (omega arith) inside c.requires.room (omega (arith, long)) was,
       loaded_row A value n card s c.loop-s.cells row long (omega (arith, inside, was.long, c.requires.room)) (λ t b. c.load_row.ensures.loaded t (omega (arith, b, part))) c.loop-s.invariant.1,
     )
