@@ -149,7 +149,8 @@ static bool is_served(const struct job *job, struct hurzelma_leg leg, const uint
         }
         return row[0] == 0 && told == unit(job);
     }
-    return is_walk(job, row, &cost) && all_differ(row + 1, row[0]) && row[1] == leg.from && row[row[0]] == leg.to && cost == told && told == best[leg.from];
+    return is_walk(job, row, &cost) && all_differ(row + 1, row[0]) && row[1] == leg.from && row[row[0]] == leg.to && cost == told &&
+           told == best[leg.from];
 }
 
 /* Whether two chains to one format go on alike from where they meet. */
@@ -171,7 +172,8 @@ static bool is_right(const struct job *job, uint32_t told, const struct left *be
     if (cause != 0) return told == cause && memcmp(before, after, sizeof *before) == 0;
     size_t legs = job->legs_length, rows = HURZELMA_ROW * legs;
     if (gains(job)) {
-        return told == fault(2, 26, 0) && is_loop(job, after->chains) && memcmp(before->costs, after->costs, sizeof before->costs) == 0 &&
+        return told == fault(2, 26, 0) && is_loop(job, after->chains) &&
+               memcmp(before->costs, after->costs, sizeof before->costs) == 0 &&
                memcmp(before->chains + HURZELMA_ROW, after->chains + HURZELMA_ROW, BYTES - HURZELMA_ROW) == 0;
     }
     for (size_t k = 0; k < legs; k++) {
@@ -216,12 +218,14 @@ static void draw_job(struct job *job) {
 
 static uint32_t call(const struct job *job, struct left *left) {
     if (!job->depth) {
-        return hurzelma_route_delay(job->n, job->cards, job->cards_length, job->legs, job->legs_length, left->costs, job->costs_length, left->chains, job->chains_length);
+        return hurzelma_route_delay(job->n, job->cards, job->cards_length, job->legs, job->legs_length,
+                                    left->costs, job->costs_length, left->chains, job->chains_length);
     }
     uint8_t cards[CARDS], costs[LEGS];
     for (size_t i = 0; i < job->n * job->n; i++) cards[i] = (uint8_t)job->cards[i];
     for (size_t k = 0; k < LEGS; k++) costs[k] = (uint8_t)left->costs[k];
-    uint32_t told = hurzelma_route_depth(job->n, cards, job->cards_length, job->legs, job->legs_length, costs, job->costs_length, left->chains, job->chains_length);
+    uint32_t told = hurzelma_route_depth(job->n, cards, job->cards_length, job->legs, job->legs_length,
+                                         costs, job->costs_length, left->chains, job->chains_length);
     for (size_t k = 0; k < LEGS; k++) left->costs[k] = costs[k];
     return told;
 }
