@@ -1,5 +1,5 @@
 // The rows, costs and notes of all legs, from a table that is brought to the least costs to one goal after the other.
-ghost use Rattle.std.specs.Prelude.{◌≡◌, ℕ, ◌*◌, ◌<◌, ◌≤◌, false, map, length, get_or, ◌≢◌, slice_index_or};
+ghost use Rattle.std.specs.Prelude.{◌≡◌, ℕ, ◌*◌, ◌<◌, ◌≤◌, true, false, map, length, get_or, ◌≢◌, slice_index_or};
 ghost use Rattle.walks.specs.Cells.{Kept, Laid, cards_in, least_in};
 ghost use Rattle.walks.specs.Eliminated.{FirstDone};
 ghost use Rattle.walks.specs.Sheet.{row_at};
@@ -53,6 +53,19 @@ impl<C: Cost> Page<'_, C> {
         self.legs.as_slice().iter().any(|leg| leg.to == goal)
     }
 
+    // The formats where a leg to the goal begins.
+    fn starts_to(&self, goal: usize) -> [bool; MOST_FORMATS]
+        ensures { (k : ℕ) → k < length (booked self.now.legs.now) → (get_or (booked self.now.legs.now) k no_leg).to ≡ goal → (get_or (booked self.now.legs.now) k no_leg).from < 64 → slice_index_or result (get_or (booked self.now.legs.now) k no_leg).from false ≡ true }
+    {
+        let mut starts = [false; MOST_FORMATS];
+        for leg in self.legs.as_slice() {
+            if leg.to == goal && leg.from < MOST_FORMATS {
+                starts[leg.from] = true;
+            }
+        }
+        starts
+    }
+
     // One leg: its row, cost and note, where a chain leads to its end.
     fn write_leg(
         &mut self,
@@ -88,7 +101,7 @@ impl<C: Cost> Page<'_, C> {
         requires few { n ≤ 64 }
         requires inside { goal < n }
         requires least { (v : ℕ) → v < n → (v ≢ goal) → Least C.Cost.algebra (cards_in C.Cost.algebra C.Cost.value n table.now) v goal (least_in C.Cost.algebra C.Cost.value n table.now v v) }
-        requires traced { (v : ℕ) → v < n → (v ≢ goal) → Traced C.Cost.algebra C.Cost.value n table.now goal next.now v }
+        requires traced { (k : ℕ) → k < length (booked self.old.legs.now) → (get_or (booked self.old.legs.now) k no_leg).to ≡ goal → (get_or (booked self.old.legs.now) k no_leg).from < n → ((get_or (booked self.old.legs.now) k no_leg).from ≢ goal) → Traced C.Cost.algebra C.Cost.value n table.now goal next.now (get_or (booked self.old.legs.now) k no_leg).from }
         requires awaits { Awaits C.Cost.algebra C.Cost.value goal (page_of self.old) }
         ensures lent { SameLent self.old self.new }
         ensures written { Written (page_of self.old) (page_of self.new) }
@@ -131,7 +144,8 @@ impl<C: Cost> Page<'_, C> {
         for goal in 0..n {
             if self.leads_to(goal) {
                 solve_to(table, n, goal);
-                trace(table, n, goal, ticks, &mut next);
+                let wanted = self.starts_to(goal);
+                trace(table, n, goal, &wanted, ticks, &mut next);
                 self.write_goal(goal, n, table, &next);
             }
         }

@@ -1,5 +1,5 @@
 -- The tree of tight cards grows format by format, with a queue of those that joined.
--- When each of the queue was scanned, the table of next formats leads along chains of least cost.
+-- When each of the queue was scanned, or each wanted format joined, the table of next formats leads along chains of least cost.
 use Rattle.std.proofs.Common.{◌≡◌, ℕ, zero, suc, ◌+◌, ◌<◌, ◌≤◌, Bool, true, false, ◌⊎◌, List, [], ◌∷◌, ◌++◌, length, get_or, set, Some, None, sym, refl, ◌∙◌, subst, inl, inr, le_of_suc-le-suc, arith, below_more}
 use Rattle.std.proofs.Math.Logic.{∥∥₁_elim}
 use Rattle.std.specs.Coded.{le_prop}
@@ -10,7 +10,7 @@ use Rattle.costs.specs.Algebra.{Algebra, Lawful}
 use Rattle.walks.specs.Walk.{path, Below, cost}
 use Rattle.walks.specs.Cells.{cards_in, least_in}
 use Rattle.registers.specs.Meaning.{most_formats}
-use Rattle.walks.specs.Tracing.{Clear, Ticked, Lined, Wider, to_goal, Ready, TightIn, Scanned, Growing, Full, Traced}
+use Rattle.walks.specs.Tracing.{Clear, Ticked, Joined, Lined, Wider, to_goal, Ready, TightIn, Scanned, Growing, Ended, Full, Traced}
 use Rattle.walks.specs.declared.cells.Cell.{Cell}
 use Rattle.walks.proofs.Fold.{below_join}
 use Rattle.walks.proofs.Cut.{distinct_few, distinct_end}
@@ -54,15 +54,7 @@ module _ (n : ℕ) (ticked : List Bool) (joined : List ℕ) (lined : Lined n tic
           let (j, b, e) = lined.all x (sym (get_or-set_other ticked v x true false ne) ∙ k) in
           (j, omega (arith, length-append joined (v ∷ [])), get_or_append_left joined (v ∷ []) 0 j b ∙ e)
 
--- a queue with n formats has all of them
-lined_all : (n : ℕ) (ticked : List Bool) (joined : List ℕ) → Lined n ticked joined → length joined ≡ n → (v : ℕ) → v < n → get_or ticked v false ≡ true
-lined_all n ticked joined lined full v l = go (cases_Bool (get_or ticked v false))
-  where
-    go : (get_or ticked v false ≡ true) ⊎ (get_or ticked v false ≡ false) → get_or ticked v false ≡ true
-    go (inl i) = i
-    go (inr free) = absurd (omega (arith, lined_room n ticked joined lined v l free))
-
-still_ticked : (ticked : List Bool) (v x : ℕ) → v < length ticked → get_or ticked x false ≡ true → get_or (set ticked v true) x false ≡ true
+pub still_ticked : (ticked : List Bool) (v x : ℕ) → v < length ticked → get_or ticked x false ≡ true → get_or (set ticked v true) x false ≡ true
 still_ticked ticked v x l e = go (cases_eq x v)
   where
     go : (x ≡ v) ⊎ (x ≡ v → ⊥) → get_or (set ticked v true) x false ≡ true
@@ -167,33 +159,39 @@ module _ {A : Algebra} (L : Lawful A) {C : Type 0} (value : C → A.Value) (n : 
       (λ v c h. here v c (subst (TightIn A value n cells goal v) (wider.front at l) h))
 
   -- with the whole queue scanned, no tight card leads into the tree from outside
-  pub growing_full : (ticked : List Bool) (next joined : List ℕ) → Growing A value n cells goal ticked next joined →
-      ((k : ℕ) → k < length joined → Scanned A value n cells goal ticked (get_or joined k 0) n) → Full A value n cells goal ticked next
-  growing_full ticked next joined g done = record {
+  pub growing_full : (wanted ticked : List Bool) (next joined : List ℕ) → Growing A value n cells goal ticked next joined →
+      ((k : ℕ) → k < length joined → Scanned A value n cells goal ticked (get_or joined k 0) n) → Full A value n cells goal wanted ticked next
+  growing_full wanted ticked next joined g done = record {
     grown = g.grown;
     rooted = g.rooted;
-    ended = λ v w l m i tight.
+    served = inr (λ v w l m i tight.
         let (k, b, e) = g.lined.all w i in
-        done k b v l (subst (TightIn A value n cells goal v) (sym e) tight);
+        done k b v l (subst (TightIn A value n cells goal v) (sym e) tight));
   }
 
-  -- with every format in the tree, none is outside
-  pub growing_all : (ticked : List Bool) (next joined : List ℕ) → Growing A value n cells goal ticked next joined → length joined ≡ n → Full A value n cells goal ticked next
-  growing_all ticked next joined g full = record { grown = g.grown; rooted = g.rooted; ended = λ v w l m i tight. lined_all n ticked joined g.lined full v l }
+  -- with every wanted format in the tree, it need not grow on
+  pub growing_joined : (wanted ticked : List Bool) (next joined : List ℕ) → Growing A value n cells goal ticked next joined → Joined n wanted ticked →
+      Full A value n cells goal wanted ticked next
+  growing_joined wanted ticked next joined g all = record { grown = g.grown; rooted = g.rooted; served = inl all }
 
 module _ {A : Algebra} (L : Lawful A) {C : Type 0} (value : C → A.Value) (n : ℕ) (cells : List (Cell C)) (goal : ℕ) (ready : Ready A value n cells goal) where
-  pub full_traced : (ticked : List Bool) (next : List ℕ) → Full A value n cells goal ticked next → (v : ℕ) → v < n → (v ≡ goal → ⊥) → Traced A value n cells goal next v
-  full_traced ticked next full v l ne = go (cases_Bool (get_or ticked v false))
+  pub full_traced : (wanted ticked : List Bool) (next : List ℕ) → Full A value n cells goal wanted ticked next → (v : ℕ) → v < n → (v ≡ goal → ⊥) →
+      get_or wanted v false ≡ true → Traced A value n cells goal next v
+  full_traced wanted ticked next full v l ne want = split full.served (cases_Bool (get_or ticked v false))
     where
       none : least_in A value n cells v v ≡ None → Traced A value n cells goal next v
       none e = rw e (rw e at (ready.least v l ne))
 
-      go : (get_or ticked v false ≡ true) ⊎ (get_or ticked v false ≡ false) → Traced A value n cells goal next v
-      go (inl i) =
+      led : get_or ticked v false ≡ true → Traced A value n cells goal next v
+      led i =
           let led = full.grown v i in
           let (ms, e, chain) = led_chain A (cards_in A value n cells) (to_goal A value n cells goal) goal ticked next v led ne in
           let d : least_in A value n cells v v ≡ Some (cost A (cards_in A value n cells) (path v ms goal)) = sym (to_goal_inside L value n cells goal v l ne) ∙ rw e at led.costs in
           rw d (ms, chain, refl, rw e at led.follows)
-      go (inr f) = none (sym (to_goal_inside L value n cells goal v l ne) ∙
+
+      split : Joined n wanted ticked ⊎ Ended A value n cells goal ticked → (get_or ticked v false ≡ true) ⊎ (get_or ticked v false ≡ false) → Traced A value n cells goal next v
+      split served (inl i) = led i
+      split (inl all) (inr f) = led (all v l want)
+      split (inr ended) (inr f) = none (sym (to_goal_inside L value n cells goal v l ne) ∙
           ended_none L n (cards_in A value n cells) ready.laid.sound ready.calm goal (to_goal A value n cells goal) (to_goal_goal L value n cells goal)
-          (to_goal_least L value n cells goal ready) ticked full.rooted full.ended v f)
+          (to_goal_least L value n cells goal ready) ticked full.rooted ended v f)

@@ -20,6 +20,6 @@ module _ {C : Type 0} {K : _} (p : Aim C K) where
   abbrev pub GrowingBy : List Bool → List ℕ → List ℕ → Type 0
   GrowingBy = Growing K.algebra K.value p.n p.cells.now p.goal
 
-  -- the tree is grown
-  abbrev pub FullBy : List Bool → List ℕ → Type 0
+  -- the tree is grown as far as it is wanted
+  abbrev pub FullBy : List Bool → List Bool → List ℕ → Type 0
   FullBy = Full K.algebra K.value p.n p.cells.now p.goal

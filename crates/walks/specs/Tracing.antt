@@ -1,6 +1,6 @@
 -- Least-cost chains that are read from a table of next formats, and the tree of tight cards that the table is made of.
 -- `ticked` says who is in the tree, by format, and `next` the next format of each one that is.
-use Rattle.std.specs.Prelude.{◌≡◌, ℕ, ◌<◌, ◌≤◌, Bool, true, false, cond, List, [], ◌∷◌, length, get_or, Some, None, Option, MatchOption, ◌==◌, ◌≢◌, nat_lt, slice_index, slice_index_or}
+use Rattle.std.specs.Prelude.{◌≡◌, ℕ, ◌<◌, ◌≤◌, Bool, true, false, cond, List, [], ◌∷◌, length, get_or, Some, None, Option, MatchOption, ◌==◌, ◌≢◌, nat_lt, ◌⊎◌, slice_index, slice_index_or}
 use Rattle.costs.specs.Algebra.{Algebra}
 use Rattle.registers.specs.Meaning.{most_formats}
 use Rattle.walks.specs.Walk.{path, Below, Distinct, Walk, cost, Chain, WalkCosts, Least, Gains, Tight}
@@ -30,6 +30,10 @@ pub record Led (A : Algebra) (card : ℕ → ℕ → Option A.Value) (d : ℕ �
   pub inside : Ticked ticked formats
   pub walks : (v ≢ t) → Walk A card formats
   pub costs : d v ≡ Some (cost A card formats)
+
+-- each wanted format below n is in the tree
+abbrev pub Joined : ℕ → List Bool → List Bool → Type 0
+Joined n wanted ticked = (v : ℕ) → v < n → slice_index_or wanted v false ≡ true → slice_index_or ticked v false ≡ true
 
 -- what holds of the tree while it grows
 abbrev pub Grown : (A : Algebra) → (ℕ → ℕ → Option A.Value) → (ℕ → Option A.Value) → ℕ → List Bool → List ℕ → Type 0
@@ -82,11 +86,15 @@ module _ (A : Algebra) {C : Type 0} (value : C → A.Value) (n : ℕ) (cells : L
     pub long_ticked : length ticked ≡ most_formats
     pub long_next : length next ≡ most_formats
 
-  -- the tree is grown: no tight card leads into it from outside
-  pub record Full (ticked : List Bool) (next : List ℕ) : Type 0 where
+  -- no tight card leads into the tree from outside
+  abbrev pub Ended : List Bool → Type 0
+  Ended ticked = (v w : ℕ) → v < n → w < n → slice_index_or ticked w false ≡ true → TightIn v w → slice_index_or ticked v false ≡ true
+
+  -- the tree is grown: it has each wanted format, or it has ended
+  pub record Full (wanted ticked : List Bool) (next : List ℕ) : Type 0 where
     pub grown : Grown A (cards_in A value n cells) to_goal goal ticked next
     pub rooted : get_or ticked goal false ≡ true
-    pub ended : (v w : ℕ) → v < n → w < n → slice_index_or ticked w false ≡ true → TightIn v w → slice_index_or ticked v false ≡ true
+    pub served : Joined n wanted ticked ⊎ Ended ticked
 
   -- `next` leads from v to the goal along a chain of the least cost, or no walk leads there
   abbrev pub Traced : List ℕ → ℕ → Type 0

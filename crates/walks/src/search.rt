@@ -143,7 +143,7 @@ pub fn write_loop<R: Register>(
     let n = register.size();
     solve_back(register, cells, n, h);
     let mut next = [0; MOST_FORMATS];
-    trace(cells, n, h, ticks, &mut next);
+    trace(cells, n, h, &[true; MOST_FORMATS], ticks, &mut next);
     let from = way_out(register, cells, n, h);
     write_round(&next, from, h, chains, 0);
 }

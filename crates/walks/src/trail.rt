@@ -1,9 +1,9 @@
 // Chains of least cost to a goal, read from a table whose diagonal has each format's least cost to it.
-ghost use Rattle.std.specs.Prelude.{◌≡◌, ℕ, Some, ◌==◌, ◌+◌, ◌<◌, ◌≤◌, true, false, [], ◌∷◌, ◌++◌, length, MatchOption, Decides, ◌≢◌, slice_index, slice_index_or, slice_set};
+ghost use Rattle.std.specs.Prelude.{◌≡◌, ℕ, Some, ◌+◌, ◌<◌, ◌≤◌, true, false, [], ◌∷◌, ◌++◌, length, MatchOption, Decides, ◌≢◌, slice_index, slice_index_or, slice_set};
 ghost use Rattle.std.specs.Option.{option_map};
 ghost use Rattle.walks.specs.Cells.{Laid, cards_in, least_in};
 ghost use Rattle.walks.specs.Walk.{Gains, Least};
-ghost use Rattle.walks.specs.Tracing.{Clear, Ready, Traced, Wider};
+ghost use Rattle.walks.specs.Tracing.{Clear, Joined, Ready, Traced, Wider};
 
 use crate::cells::{Cell, cell_at};
 use costs::Cost;
@@ -80,13 +80,6 @@ impl Queue {
     {
         self.formats[self.joined] = format;
         self.joined += 1;
-    }
-
-    // Whether `n` formats joined.
-    fn has_all(&self, n: usize) -> bool
-        ensures { result ≡ (length self.now.joined == n) }
-    {
-        self.joined == n
     }
 
     // The next format that waits.
@@ -177,31 +170,49 @@ impl<C: Cost> Aim<'_, C> {
         }
     }
 
+    // Whether each wanted format is in the tree.
+    fn has_all(&self, wanted: &[bool; MOST_FORMATS], ticks: &Ticks) -> bool
+        ensures { result ≡ true → Joined self.now.n wanted.now ticks.now.sheet.now }
+    {
+        for format in 0..self.n {
+            if wanted[format] && !ticks.has(format) {
+                return false;
+            }
+        }
+        true
+    }
+
     // Grows the tree of tight cards backwards from the goal, breadth first: each format that joins is scanned once, until
-    // all have joined.
-    fn grow(&self, ticks: &mut Ticks, next: &mut [usize; MOST_FORMATS])
+    // all wanted ones have joined.
+    fn grow(
+        &self,
+        wanted: &[bool; MOST_FORMATS],
+        ticks: &mut Ticks,
+        next: &mut [usize; MOST_FORMATS],
+    )
         requires clear { Clear ticks.old.sheet.now }
         requires long { length ticks.old.sheet.now ≡ 64 }
-        ensures full { FullBy self.now ticks.new.sheet.now next.new }
+        ensures full { FullBy self.now wanted.now ticks.new.sheet.now next.new }
         ensures same { ticks.new.sheet.ghost_name ≡ ticks.old.sheet.ghost_name }
     {
         ticks.tick(self.goal);
         let mut queue = Queue::new(self.goal);
         while let Some(to) = queue.pop() {
             self.scan(to, ticks, next, &mut queue);
-            if queue.has_all(self.n) {
+            if self.has_all(wanted, ticks) {
                 break;
             }
         }
     }
 }
 
-// Writes into `next` where to go on from each format along a chain of least cost to the goal. The sheet is for its own use,
-// and is clear again at the end.
+// Writes into `next` where to go on from each wanted format along a chain of least cost to the goal. The sheet is for its own
+// use, and is clear again at the end.
 pub fn trace<C: Cost>(
     cells: &[Cell<C>],
     n: usize,
     goal: usize,
+    wanted: &[bool; MOST_FORMATS],
     sheet: &mut [bool; MOST_FORMATS],
     next: &mut [usize; MOST_FORMATS],
 )
@@ -212,9 +223,9 @@ pub fn trace<C: Cost>(
     requires least { (v : ℕ) → v < n → (v ≢ goal) → Least C.Cost.algebra (cards_in C.Cost.algebra C.Cost.value n cells.now) v goal (least_in C.Cost.algebra C.Cost.value n cells.now v v) }
     requires clear { Clear sheet.old }
     ensures clear { Clear sheet.new }
-    ensures traced { (v : ℕ) → v < n → (v ≢ goal) → Traced C.Cost.algebra C.Cost.value n cells.now goal next.new v }
+    ensures traced { (v : ℕ) → v < n → (v ≢ goal) → slice_index_or wanted.now v false ≡ true → Traced C.Cost.algebra C.Cost.value n cells.now goal next.new v }
 {
     let mut ticks = Ticks { sheet };
     let aim = Aim { cells, n, goal };
-    aim.grow(&mut ticks, next);
+    aim.grow(wanted, &mut ticks, next);
 }

@@ -1,5 +1,6 @@
 -- The cards up to h are solved to least costs, so the chain back to h can be traced; with h in front it is a loop.
-use Rattle.std.proofs.Common.{◌*◌, ◌∷◌, refl, subst, arith}
+use Rattle.std.proofs.Common.{◌*◌, ◌∷◌, true, false, refl, subst, arith}
+use Rattle.std.proofs.lemmas.List.{get_or-replicate}
 use Rattle.registers.specs.Meaning.{meant}
 use Rattle.walks.specs.Walk.{path}
 use Rattle.walks.specs.Cells.{Beyond}
@@ -29,12 +30,12 @@ way_out-from-requires g c =
 pub write_round-requires : goal.write_round-requires
 write_round-requires g c =
     let back = c.solve_back.ensures.back in
-    let loop = turns_loop g.met.R.Cost.Cost.lawful _ _ _ _ _ back c.trace.new.next _ c.way_out-from.ensures c.trace.ensures.traced in
+    let loop = turns_loop g.met.R.Cost.Cost.lawful _ _ _ _ _ back c.trace.new.next _ c.way_out-from.ensures (λ v l ne. c.trace.ensures.traced v l ne (get_or-replicate 64 v true false (omega (arith, c.solve_back.ensures.back.few)))) in
     record { room = c.requires.row; leads = loop.4; inside = omega (arith, back.inside, back.few) }
 
 pub returns : goal.returns
 returns g c =
-    let loop = turns_loop g.met.R.Cost.Cost.lawful _ _ _ _ _ c.solve_back.ensures.back c.trace.new.next _ c.way_out-from.ensures c.trace.ensures.traced in
+    let loop = turns_loop g.met.R.Cost.Cost.lawful _ _ _ _ _ c.solve_back.ensures.back c.trace.new.next _ c.way_out-from.ensures (λ v l ne. c.trace.ensures.traced v l ne (get_or-replicate 64 v true false (omega (arith, c.solve_back.ensures.back.few)))) in
     let from = c.way_out-from.result in
     record {
       clear = c.trace.ensures.clear;

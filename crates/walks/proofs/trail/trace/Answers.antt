@@ -8,6 +8,6 @@ returns g c =
     record {
       clear = search rules;
       traced =
-          full_traced g.met.C.Cost.lawful g.C.Cost.value _ _ _ (record { laid = pre.laid; few = pre.few; inside = pre.inside; calm = pre.calm; least = pre.least }) _ _
+          full_traced g.met.C.Cost.lawful g.C.Cost.value _ _ _ (record { laid = pre.laid; few = pre.few; inside = pre.inside; calm = pre.calm; least = pre.least }) _ _ _
           c.grow.ensures.full;
     }

@@ -4,7 +4,7 @@ use Rattle.walks.specs.Tracing.{Traced}
 use Rattle.bay.specs.Leg.{no_leg}
 use Rattle.bay.specs.Lent.{SameLent, page_of}
 use Rattle.bay.proofs.LegSteps.{length_booked}
-use Rattle.bay.proofs.PlaceSteps.{Serving, lent_then, same_number, serving_passes, serving_more}
+use Rattle.bay.proofs.PlaceSteps.{Serving, lent_then, same_ends, same_number, serving_passes, serving_more}
 use Rattle.bay.proofs.writing.Page.write_goal.Goals as goal
 use Rattle.bay.proofs.writing.Page.write_goal.Goals.{then-leg-goal, else-leg-goal}
 
@@ -13,12 +13,21 @@ pub write_leg-requires-clause-traced : goal.write_leg-requires-clause-traced
 write_leg-requires-clause-traced g c l =
     let legs = c.loop-k.self.legs.now in
     let leg = get_or c.as_slice.result.now c.loop-k.k no_leg in
-    let few = same_number (page_of c.args.self.now) (page_of c.loop-k.self) c.loop-k.invariant.0.written in
+    let before = page_of c.args.self.now in
+    let now = page_of c.loop-k.self in
+    let written = c.loop-k.invariant.0.written in
+    let few = same_number before now written in
     let inside : c.loop-k.k < legs.count = omega (arith, few, length_booked legs, c.len-k-end.ensures.value) in
     let is : leg ≡ get_or legs.list c.loop-k.k no_leg = ap (λ list. get_or list c.loop-k.k no_leg) c.as_slice.ensures ∙ get_or-take legs.count legs.list c.loop-k.k no_leg inside in
     let apart = subst (λ l. l.from ≡ l.to → ⊥) (sym is) (legs.apart c.loop-k.k inside) in
+    let here : leg ≡ get_or now.legs c.loop-k.k no_leg = ap (λ list. get_or list c.loop-k.k no_leg) c.as_slice.ensures in
+    let same = same_ends before now written c.loop-k.k in
+    let from_is : (get_or before.legs c.loop-k.k no_leg).from ≡ leg.from = sym (ap (λ l. l.from) here ∙ ap (λ e. e.from) same) in
+    let to_is : (get_or before.legs c.loop-k.k no_leg).to ≡ c.args.goal = sym (ap (λ l. l.to) here ∙ ap (λ e. e.to) same) ∙ c.if-leg-goal.true in
     subst (λ t. Traced g.C.Cost.algebra g.C.Cost.value c.args.n c.args.table.now t c.args.next.now leg.from) (sym c.if-leg-goal.true)
-    (c.requires.traced leg.from l (λ e. apart (e ∙ sym c.if-leg-goal.true)))
+    (subst (λ v. Traced g.C.Cost.algebra g.C.Cost.value c.args.n c.args.table.now c.args.goal c.args.next.now v) from_is
+    (c.requires.traced c.loop-k.k (omega (arith, few, length_booked legs, inside)) to_is (subst (λ v. v < c.args.n) (sym from_is) l)
+    (λ e. apart (sym from_is ∙ e ∙ sym c.if-leg-goal.true))))
 
 pub loop-k-preserved : goal.loop-k-preserved
 loop-k-preserved g c =

@@ -50,7 +50,7 @@ write_goal-requires g c =
       few = c.requires.few;
       inside = c.loop-goal-test.true;
       least = kept_least A value c.args.n _ _ c.solve_to.ensures.kept c.loop-goal.goal c.solve_to.ensures.least;
-      traced = c.trace.ensures.traced;
+      traced = λ k l e lt ne. c.trace.ensures.traced _ lt ne (c.starts_to-wanted.ensures k l e (omega (arith, c.requires.few)));
       awaits = λ k l e. progress.later k l (omega arith);
     }
 

@@ -1,7 +1,6 @@
--- Each format that is taken out of the queue is scanned, and the tree is grown when all of them are.
-use Rattle.std.proofs.Common.{◌≡◌, ◌+◌, sym, refl, ap, ◌∙◌, arith}
-use Rattle.std.proofs.lemmas.Bool.{eqb-true}
-use Rattle.walks.proofs.Growth.{growing_start, growing_few, growing_at, queue_more, growing_full, growing_all}
+-- Each format that is taken out of the queue is scanned, and the tree is grown when all of them are, or when each wanted one is in it.
+use Rattle.std.proofs.Common.{◌≡◌, ◌+◌, refl, ap, ◌∙◌, arith}
+use Rattle.walks.proofs.Growth.{growing_start, growing_few, growing_at, queue_more, growing_full, growing_joined}
 use Rattle.walks.proofs.trail.Aim.grow.Goals as goal
 
 pub loop-to-init : goal.loop-to-init
@@ -39,9 +38,8 @@ pub returns-in_default-clause-full : goal.returns-in_default-clause-full
 returns-in_default-clause-full g c =
     let (growing, few, done, same) = c.loop-to.invariant in
     let end = c.in_default.ensures.0 in
-    growing_full g.met.C.Cost.lawful g.C.Cost.value _ _ _ c.args.self.now.ready _ _ _ growing (λ k l. done k (omega arith))
+    growing_full g.met.C.Cost.lawful g.C.Cost.value _ _ _ c.args.self.now.ready _ _ _ _ growing (λ k l. done k (omega arith))
 
 pub returns-then-has_all-clause-full : goal.returns-then-has_all-clause-full
 returns-then-has_all-clause-full g c =
-    growing_all g.met.C.Cost.lawful g.C.Cost.value _ _ _ c.args.self.now.ready _ _ _ c.scan.ensures.growing
-    (eqb-true _ _ (sym c.has_all.ensures ∙ c.if-has_all.true))
+    growing_joined g.met.C.Cost.lawful g.C.Cost.value _ _ _ c.args.self.now.ready _ _ _ _ c.scan.ensures.growing (c.has_all.ensures c.if-has_all.true)
