@@ -1,9 +1,9 @@
 -- Following a table of next formats until t: the lists met, how they agree, and the tree of tight cards that grows in such a table.
 -- `ticked` says who is in the tree, by format, and `next` the next format of each one that is.
-use Rattle.std.proofs.Common.{◌≡◌, ℕ, zero, suc, ◌<◌, ◌≤◌, Bool, true, false, ◌⊎◌, List, [], ◌∷◌, ◌++◌, length, get_or, set, replicate, is_some, Some, None, Option, unwrap_or, sym, refl, ap, ◌∙◌, subst, ap₂, inl, inr}
+use Rattle.std.proofs.Common.{◌≡◌, ℕ, zero, suc, ◌<◌, ◌≤◌, Bool, true, false, not, ◌⊎◌, List, [], ◌∷◌, ◌++◌, length, get_or, set, replicate, is_some, Some, Option, unwrap_or, sym, refl, ap, ◌∙◌, subst, ap₂, inl, inr}
 use lib.ListN.{get_or-eq_default}
 use Rattle.std.proofs.lemmas.List.{get_or-set_same, get_or-set_other}
-use Rattle.std.proofs.lemmas.Bool.{cases_lt, cases_eq, both_ways}
+use Rattle.std.proofs.lemmas.Bool.{cases_lt, cases_eq, cases_Bool, both_ways}
 use Rattle.costs.specs.Algebra.{Algebra, Lawful}
 use Rattle.walks.specs.Walk.{path, Below, Absent, Distinct, LeastOf, Walk, cost, Chain, WalkCosts, Least, Gains, Tight}
 use Rattle.walks.specs.Theorems.{Sound}
@@ -143,19 +143,19 @@ module _ (A : Algebra) (card : ℕ → ℕ → Option A.Value) (d : ℕ → Opti
   pub led_chain : (v : ℕ) (k : Led A card d t ticked next v) → (v ≡ t → ⊥) → (ms : List ℕ) × (k.formats ≡ path v ms t) × Chain A card (path v ms t)
   led_chain v k ne = let (ms, e) = follows_path next t v k.formats ne k.follows in (ms, e, (rw e at (k.walks ne), rw e at k.distinct))
 
--- Growth has ended: no tight card leads into the tree from outside.
+-- A set of formats without t that has each format with a tight card from the set: no walk leads from it to t. What is left out of
+-- it is a tree that has t, and each format with a tight card into it.
 module _ {A : Algebra} (L : Lawful A) (n : ℕ) (card : ℕ → ℕ → Option A.Value) (sound : Sound A n card) (gainless : Gains A card → ⊥)
     (t : ℕ) (d : ℕ → Option A.Value) (at_t : d t ≡ Some A.unit) (least : (v : ℕ) → (v ≡ t → ⊥) → Least A card v t (d v))
-    (ticked : List Bool) (has_t : get_or ticked t false ≡ true)
-    (ended : (v w : ℕ) → v < n → w < n → get_or ticked w false ≡ true → Tight A card d v w → get_or ticked v false ≡ true) where
-  pub ended_reaches : (v : ℕ) (x : A.Value) → WalkCosts A card v t x → get_or ticked v false ≡ true
-  ended_reaches = tree_reaches L n card sound gainless t d at_t least (λ v. get_or ticked v false) has_t
-      (λ v w i tight. let q = sound.inside v w tight.0 tight.2 in ended v w q.0 q.1 i tight)
+    (marks : List Bool) (without : get_or marks t false ≡ false)
+    (closed : (v w : ℕ) → w < n → get_or marks v false ≡ true → Tight A card d v w → get_or marks w false ≡ true) where
+  left_out : (v w : ℕ) → not (get_or marks w false) ≡ true → Tight A card d v w → (get_or marks v false ≡ true) ⊎ (get_or marks v false ≡ false) → not (get_or marks v false) ≡ true
+  left_out v w o tight (inl i) = absurd (both_ways _ (rw (closed v w (sound.inside v w tight.0 tight.2).1 i tight) refl) o)
+  left_out v w o tight (inr f) = rw f refl
 
-  -- who is not in the tree has no walk to t
-  pub ended_none : (v : ℕ) → get_or ticked v false ≡ false → d v ≡ None
-  ended_none v free = go (d v) refl (least v (λ e. both_ways (get_or ticked t false) (rw e at free) has_t))
-    where
-      go : (o : Option A.Value) → d v ≡ o → LeastOf A (WalkCosts A card v t) o → d v ≡ None
-      go None e h = e
-      go (Some x) e h = absurd (both_ways (get_or ticked v false) free (ended_reaches v x h.0))
+  pub closed_never : (v : ℕ) → get_or marks v false ≡ true → (x : A.Value) → d v ≡ Some x → ⊥
+  closed_never v i x e =
+      let h : LeastOf A (WalkCosts A card v t) (Some x) = rw e at (least v (λ e. both_ways (get_or marks t false) without (rw e at i))) in
+      let o = tree_reaches L n card sound gainless t d at_t least (λ v. not (get_or marks v false)) (rw without refl)
+      (λ v w o tight. left_out v w o tight (cases_Bool (get_or marks v false))) v x h.0 in
+      both_ways _ (rw i refl) o

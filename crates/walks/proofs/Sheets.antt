@@ -10,7 +10,7 @@ use Rattle.registers.specs.Meaning.{most_formats}
 use Rattle.walks.specs.Tracing.{Follows}
 use Rattle.walks.specs.Sheet.{most_in_row, row_of, row_at, put_row, Leads, LeadsIn}
 use Rattle.walks.proofs.Follow.{follows_head, follows_same}
-use Rattle.walks.proofs.Growth.{below_at}
+use Rattle.walks.proofs.Searches.{below_at}
 use Rattle.walks.proofs.Runs.{to_runs}
 use Rattle.walks.proofs.Fold.{below_join, below_mono}
 use Rattle.walks.proofs.Loops.{runs_inside}

@@ -1,6 +1,6 @@
--- What a trace asks of its table and makes of the tree, seen from its aim.
+-- What a trace asks of its table, and what its searches find, seen from its aim.
 use Rattle.std.specs.Prelude.{ℕ, Bool, List, Option}
-use Rattle.walks.specs.Tracing.{to_goal, TightIn, Scanned, Growing, Full}
+use Rattle.walks.specs.Tracing.{Reached, to_goal, TightIn, Scanned, Onward, Searched, Exhausted, Tended, Served}
 use Rattle.walks.specs.declared.trail.Aim.{Aim}
 
 module _ {C : Type 0} {K : _} (p : Aim C K) where
@@ -12,14 +12,26 @@ module _ {C : Type 0} {K : _} (p : Aim C K) where
   abbrev pub TightBy : ℕ → ℕ → Type 0
   TightBy = TightIn K.algebra K.value p.n p.cells.now p.goal
 
-  -- each format with a tight card to w is in the tree
+  -- each format with a tight card from v has a mark
   abbrev pub ScannedBy : List Bool → ℕ → Type 0
-  ScannedBy ticked w = Scanned K.algebra K.value p.n p.cells.now p.goal ticked w p.n
+  ScannedBy marks v = Scanned K.algebra K.value p.n p.cells.now p.goal marks v p.n
 
-  -- the tree with its queue, while it grows
-  abbrev pub GrowingBy : List Bool → List ℕ → List ℕ → Type 0
-  GrowingBy = Growing K.algebra K.value p.n p.cells.now p.goal
+  -- a tight card leads from v to w, which has a tick
+  abbrev pub OnwardBy : List Bool → ℕ → ℕ → Type 0
+  OnwardBy = Onward K.algebra K.value p.n p.cells.now p.goal
 
-  -- the tree is grown as far as it is wanted
-  abbrev pub FullBy : List Bool → List Bool → List ℕ → Type 0
-  FullBy = Full K.algebra K.value p.n p.cells.now p.goal
+  -- a search among formats without a tick
+  abbrev pub SearchedBy : List Bool → Reached → Type 0
+  SearchedBy = Searched K.algebra K.value p.n p.cells.now p.goal
+
+  -- each format with a tight card from one that was reached was reached too
+  abbrev pub ExhaustedBy : Reached → Type 0
+  ExhaustedBy = Exhausted K.algebra K.value p.n p.cells.now p.goal
+
+  -- `next` leads to the goal from each format with a tick
+  abbrev pub TendedBy : List Bool → List ℕ → Type 0
+  TendedBy = Tended K.algebra K.value p.n p.cells.now p.goal
+
+  -- v has a tick, or no walk leads from it to the goal
+  abbrev pub ServedBy : List Bool → ℕ → Type 0
+  ServedBy = Served K.algebra K.value p.n p.cells.now p.goal

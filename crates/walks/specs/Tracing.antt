@@ -1,6 +1,6 @@
--- Least-cost chains that are read from a table of next formats, and the tree of tight cards that the table is made of.
--- `ticked` says who is in the tree, by format, and `next` the next format of each one that is.
-use Rattle.std.specs.Prelude.{◌≡◌, ℕ, ◌<◌, ◌≤◌, Bool, true, false, cond, List, [], ◌∷◌, length, get_or, Some, None, Option, MatchOption, ◌==◌, ◌≢◌, nat_lt, ◌⊎◌, slice_index, slice_index_or}
+-- Least-cost chains that are read from a table of next formats, and the searches over tight cards that the table is made by.
+-- `ticked` says from which formats `next` leads to the goal: they are a tree, with the goal at its root.
+use Rattle.std.specs.Prelude.{◌≡◌, ℕ, ◌<◌, ◌≤◌, Bool, true, false, cond, List, [], ◌∷◌, length, Some, None, Option, MatchOption, ◌==◌, ◌≢◌, nat_lt, ◌⊎◌, slice_index, slice_index_or}
 use Rattle.costs.specs.Algebra.{Algebra}
 use Rattle.registers.specs.Meaning.{most_formats}
 use Rattle.walks.specs.Walk.{path, Below, Distinct, Walk, cost, Chain, WalkCosts, Least, Gains, Tight}
@@ -31,31 +31,32 @@ pub record Led (A : Algebra) (card : ℕ → ℕ → Option A.Value) (d : ℕ �
   pub walks : (v ≢ t) → Walk A card formats
   pub costs : d v ≡ Some (cost A card formats)
 
--- each wanted format below n is in the tree
-abbrev pub Joined : ℕ → List Bool → List Bool → Type 0
-Joined n wanted ticked = (v : ℕ) → v < n → slice_index_or wanted v false ≡ true → slice_index_or ticked v false ≡ true
-
--- what holds of the tree while it grows
+-- `next` leads to t from each format in the tree
 abbrev pub Grown : (A : Algebra) → (ℕ → ℕ → Option A.Value) → (ℕ → Option A.Value) → ℕ → List Bool → List ℕ → Type 0
 Grown A card d t ticked next = (v : ℕ) → slice_index_or ticked v false ≡ true → Led A card d t ticked next v
 
--- a queue: the formats that joined it, in their order, and how many of them were taken out of it
-pub record Line : Type 0 where
-  pub joined : List ℕ
-  pub taken : ℕ
+-- who had a tick still has it
+abbrev pub Rises : List Bool → List Bool → Type 0
+Rises before after = (v : ℕ) → slice_index_or before v false ≡ true → slice_index_or after v false ≡ true
 
--- the formats that joined the queue are those in the tree, each once
-pub record Lined (n : ℕ) (ticked : List Bool) (joined : List ℕ) : Type 0 where
-  pub below : Below n joined
-  pub distinct : Distinct joined
-  pub inside : Ticked ticked joined
-  pub all : (v : ℕ) → slice_index_or ticked v false ≡ true → (k : ℕ) × (k < length joined) × (slice_index joined k ≡ v)
+-- what a search has reached: the formats in their order, the place of the one that each was reached from, and a mark for each
+pub record Reached : Type 0 where
+  pub formats : List ℕ
+  pub origins : List ℕ
+  pub marks : List Bool
 
--- who was in the tree still is, and the queue only has more at its end
-pub record Wider (before after : List Bool) (joined longer : List ℕ) : Type 0 where
-  pub rises : length joined ≤ length longer
-  pub ticks : (v : ℕ) → slice_index_or before v false ≡ true → slice_index_or after v false ≡ true
-  pub front : (k : ℕ) → k < length joined → slice_index longer k ≡ slice_index joined k
+-- the formats of the list are those with a mark, each once
+pub record Lined (n : ℕ) (marks : List Bool) (formats : List ℕ) : Type 0 where
+  pub below : Below n formats
+  pub distinct : Distinct formats
+  pub inside : Ticked marks formats
+  pub all : (v : ℕ) → slice_index_or marks v false ≡ true → (k : ℕ) × (k < length formats) × (slice_index formats k ≡ v)
+
+-- who had a mark still has it, and the list only has more at its end
+pub record Wider (before after : List Bool) (formats longer : List ℕ) : Type 0 where
+  pub rises : length formats ≤ length longer
+  pub marks : Rises before after
+  pub front : (k : ℕ) → k < length formats → slice_index longer k ≡ slice_index formats k
 
 module _ (A : Algebra) {C : Type 0} (value : C → A.Value) (n : ℕ) (cells : List (Cell C)) (goal : ℕ) where
   -- the least cost from v to the goal, the unit at the goal itself: a format's diagonal cell has its own
@@ -74,27 +75,37 @@ module _ (A : Algebra) {C : Type 0} (value : C → A.Value) (n : ℕ) (cells : L
   abbrev pub TightIn : ℕ → ℕ → Type 0
   TightIn v w = Tight A (cards_in A value n cells) to_goal v w
 
-  -- each format below k with a tight card to w is in the tree
+  -- each format below k with a tight card from v has a mark
   abbrev pub Scanned : List Bool → ℕ → ℕ → Type 0
-  Scanned ticked w k = (v : ℕ) → v < k → TightIn v w → slice_index_or ticked v false ≡ true
+  Scanned marks v k = (w : ℕ) → w < k → TightIn v w → slice_index_or marks w false ≡ true
 
-  -- the tree with its queue, while it grows
-  pub record Growing (ticked : List Bool) (next joined : List ℕ) : Type 0 where
+  -- a tight card leads from v to w, which has a tick
+  abbrev pub Onward : List Bool → ℕ → ℕ → Type 0
+  Onward ticked v w = (w < n) × (slice_index_or ticked w false ≡ true) × TightIn v w
+
+  -- a search among formats without a tick: a tight card leads to each but the first, from an earlier one
+  pub record Searched (ticked : List Bool) (r : Reached) : Type 0 where
+    pub lined : Lined n r.marks r.formats
+    pub long_marks : length r.marks ≡ most_formats
+    pub long_origins : length r.origins ≡ length r.formats
+    pub free : (k : ℕ) → k < length r.formats → slice_index_or ticked (slice_index r.formats k) false ≡ false
+    pub tight : (k : ℕ) → 0 < k → k < length r.formats →
+        (slice_index r.origins k < k) × TightIn (slice_index r.formats (slice_index r.origins k)) (slice_index r.formats k)
+
+  -- each format with a tight card from one that was reached was reached too
+  abbrev pub Exhausted : Reached → Type 0
+  Exhausted r = (k : ℕ) → k < length r.formats → Scanned r.marks (slice_index r.formats k) n
+
+  -- `next` leads to the goal from each format with a tick, and the goal has one
+  pub record Tended (ticked : List Bool) (next : List ℕ) : Type 0 where
     pub grown : Grown A (cards_in A value n cells) to_goal goal ticked next
-    pub rooted : get_or ticked goal false ≡ true
-    pub lined : Lined n ticked joined
+    pub rooted : slice_index_or ticked goal false ≡ true
     pub long_ticked : length ticked ≡ most_formats
     pub long_next : length next ≡ most_formats
 
-  -- no tight card leads into the tree from outside
-  abbrev pub Ended : List Bool → Type 0
-  Ended ticked = (v w : ℕ) → v < n → w < n → slice_index_or ticked w false ≡ true → TightIn v w → slice_index_or ticked v false ≡ true
-
-  -- the tree is grown: it has each wanted format, or it has ended
-  pub record Full (wanted ticked : List Bool) (next : List ℕ) : Type 0 where
-    pub grown : Grown A (cards_in A value n cells) to_goal goal ticked next
-    pub rooted : get_or ticked goal false ≡ true
-    pub served : Joined n wanted ticked ⊎ Ended ticked
+  -- v has a tick, or no walk leads from it to the goal
+  abbrev pub Served : List Bool → ℕ → Type 0
+  Served ticked v = (slice_index_or ticked v false ≡ true) ⊎ ((x : A.Value) → to_goal v ≡ Some x → ⊥)
 
   -- `next` leads from v to the goal along a chain of the least cost, or no walk leads there
   abbrev pub Traced : List ℕ → ℕ → Type 0

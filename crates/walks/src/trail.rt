@@ -1,16 +1,16 @@
 // Chains of least cost to a goal, read from a table whose diagonal has each format's least cost to it.
-ghost use Rattle.std.specs.Prelude.{◌≡◌, ℕ, Some, ◌+◌, ◌<◌, ◌≤◌, true, false, [], ◌∷◌, ◌++◌, length, MatchOption, Decides, ◌≢◌, slice_index, slice_index_or, slice_set};
+ghost use Rattle.std.specs.Prelude.{◌≡◌, ℕ, Some, ◌+◌, ◌<◌, ◌≤◌, true, false, [], ◌∷◌, ◌++◌, length, MatchOption, Decides, ◌≢◌, replicate, slice_index, slice_index_or, slice_set};
 ghost use Rattle.std.specs.Option.{option_map};
 ghost use Rattle.walks.specs.Cells.{Laid, cards_in, least_in};
 ghost use Rattle.walks.specs.Walk.{Gains, Least};
-ghost use Rattle.walks.specs.Tracing.{Clear, Joined, Ready, Traced, Wider};
+ghost use Rattle.walks.specs.Tracing.{Clear, Ready, Rises, Traced, Wider};
 
 use crate::cells::{Cell, cell_at};
 use costs::Cost;
 use registers::MOST_FORMATS;
 use std::marker::Model;
 
-// A tick for each format, in an array by format as `next` is. All ticks are gone when it ends.
+// A tick for each format from which `next` leads to the goal, in an array by format as `next` is. All ticks are gone when it ends.
 struct Ticks<'a> {
     sheet: &'a mut [bool; MOST_FORMATS],
 }
@@ -43,52 +43,80 @@ impl Drop for Ticks<'_> {
     }
 }
 
-// The formats that joined the tree, in their order. Those from `taken` on still wait to be scanned.
+// The formats that a search has reached, in their order, each with the place of the one that it was reached from, and a mark
+// for each.
 #[derive(Drop)]
-struct Queue {
+struct Search {
     formats: [usize; MOST_FORMATS],
-    joined: usize,
-    taken: usize,
+    origins: [usize; MOST_FORMATS],
+    marks: [bool; MOST_FORMATS],
+    count: usize,
 }
 
-impl Model for Queue {
+impl Model for Search {
     ghost use Rattle.std.specs.Prelude.{◌≤◌, take};
-    ghost use Rattle.walks.specs.Tracing.{Line};
+    ghost use Rattle.walks.specs.Tracing.{Reached};
 
-    ghost Value = { Line };
+    ghost Value = { Reached };
 
-    ghost view = { λ q. record { joined = take q.joined q.formats; taken = q.taken } };
+    ghost view = { λ s. record { formats = take s.count s.formats; origins = take s.count s.origins; marks = s.marks } };
 
-    ghost invariant = { λ q. (q.taken ≤ q.joined) × (q.joined ≤ 64) };
+    ghost invariant = { λ s. s.count ≤ 64 };
 }
 
-impl Queue {
-    // The goal alone waits.
-    fn new(goal: usize) -> Queue
-        ensures { result ≡ record { joined = goal ∷ []; taken = 0 } }
+impl Search {
+    // The format that it begins with is reached from nowhere.
+    fn new(start: usize) -> Search
+        requires { start < 64 }
+        ensures { result ≡ record { formats = start ∷ []; origins = 0 ∷ []; marks = slice_set (replicate 64 false) start true } }
     {
-        Queue {
-            formats: [goal; MOST_FORMATS],
-            joined: 1,
-            taken: 0,
+        let mut marks = [false; MOST_FORMATS];
+        marks[start] = true;
+        Search {
+            formats: [start; MOST_FORMATS],
+            origins: [0; MOST_FORMATS],
+            marks,
+            count: 1,
         }
     }
 
-    fn push(&mut self, format: usize)
-        requires { length self.old.joined < 64 }
-        ensures { self.new ≡ record { joined = self.old.joined ++ format ∷ []; taken = self.old.taken } }
+    fn count(&self) -> usize
+        ensures { result ≡ length self.now.formats }
     {
-        self.formats[self.joined] = format;
-        self.joined += 1;
+        self.count
     }
 
-    // The next format that waits.
-    fn pop(&mut self) -> Option<usize>
-        ensures { MatchOption result ((length self.old.joined ≤ self.old.taken) × (self.new ≡ self.old)) (λ f. (self.old.taken < length self.old.joined) × (f ≡ slice_index self.old.joined self.old.taken) × (self.new ≡ record { joined = self.old.joined; taken = self.old.taken + 1 })) }
+    fn format(&self, place: usize) -> usize
+        requires { place < length self.now.formats }
+        ensures { result ≡ slice_index self.now.formats place }
     {
-        let format = *self.formats[..self.joined].get(self.taken)?;
-        self.taken += 1;
-        Some(format)
+        self.formats[..self.count][place]
+    }
+
+    fn origin(&self, place: usize) -> usize
+        requires { place < length self.now.origins }
+        ensures { result ≡ slice_index self.now.origins place }
+    {
+        self.origins[..self.count][place]
+    }
+
+    fn has(&self, format: usize) -> bool
+        requires { format < length self.now.marks }
+        ensures { result ≡ slice_index_or self.now.marks format false }
+    {
+        self.marks[format]
+    }
+
+    // Adds a format, which was reached from the one at the place.
+    fn push(&mut self, format: usize, origin: usize)
+        requires room { length self.old.formats < 64 }
+        requires inside { format < length self.old.marks }
+        ensures { self.new ≡ record { formats = self.old.formats ++ format ∷ []; origins = self.old.origins ++ origin ∷ []; marks = slice_set self.old.marks format true } }
+    {
+        self.formats[self.count] = format;
+        self.origins[self.count] = origin;
+        self.marks[format] = true;
+        self.count += 1;
     }
 }
 
@@ -110,7 +138,7 @@ struct Aim<'a, C: Cost> {
 }
 
 impl<C: Cost> Aim<'_, C> {
-    ghost use Rattle.walks.specs.Aims.{FullBy, GrowingBy, ScannedBy, TightBy, rest_of};
+    ghost use Rattle.walks.specs.Aims.{ExhaustedBy, OnwardBy, ScannedBy, SearchedBy, ServedBy, TendedBy, TightBy, rest_of};
 
     // The least cost from `to` to the goal, the unit at the goal itself.
     fn rest(&self, to: usize) -> Option<C>
@@ -124,67 +152,117 @@ impl<C: Cost> Aim<'_, C> {
         }
     }
 
-    // Whether a card leads from `from` to `to` that is tight on the way to the goal: with `onward`, the rest of the way from
-    // `to`, it costs just what is least from `from`.
-    fn tight(&self, onward: C, from: usize, to: usize) -> bool
-        requires inside { (from < self.now.n) × (to < self.now.n) × (from ≢ to) × (from ≢ self.now.goal) }
-        requires onward { Some (C.Cost.value onward) ≡ rest_of self.now to }
+    // Whether a card leads from `from` to `to` that is tight on the way to the goal: with the rest of the way from `to`, it
+    // costs just `whole`, what is least from `from`.
+    fn tight(&self, whole: C, from: usize, to: usize) -> bool
+        requires inside { (from < self.now.n) × (to < self.now.n) × (from ≢ to) }
+        requires whole { Some (C.Cost.value whole) ≡ rest_of self.now from }
         ensures { Decides result (TightBy self.now from to) }
     {
         let Some(card) = cell_at(self.cells, self.n, from, to).card else {
             return false;
         };
-        let Some(whole) = cell_at(self.cells, self.n, from, from).least else {
+        let Some(onward) = self.rest(to) else {
             return false;
         };
         same(card.join(onward), whole)
     }
 
-    // Each format with a tight card to `to`, which is in the tree, joins the tree and the queue. A format is its number, so the
-    // loop goes over the numbers. Ticks, next formats and queue are three arguments: a struct of them would hold two lent arrays,
-    // and each function would have to say of both that they stay the same ones.
-    fn scan(
+    // Goes over the tight cards from the format at the place: answers the first that leads to a format with a tick, else
+    // adds those that have no mark to the search. A format is its number, so the loop goes over the numbers.
+    fn scan(&self, ticks: &Ticks, search: &mut Search, place: usize) -> Option<usize>
+        requires inside { place < length search.old.formats }
+        requires searched { SearchedBy self.now ticks.now.sheet.now search.old }
+        requires long { length ticks.now.sheet.now ≡ 64 }
+        ensures searched { SearchedBy self.now ticks.now.sheet.now search.new }
+        ensures wider { Wider search.old.marks search.new.marks search.old.formats search.new.formats }
+        ensures answer { MatchOption result (ScannedBy self.now search.new.marks (slice_index search.old.formats place)) (OnwardBy self.now ticks.now.sheet.now (slice_index search.old.formats place)) }
+    {
+        let from = search.format(place);
+        let whole = self.rest(from)?;
+        for to in 0..self.n {
+            if !search.has(to) && self.tight(whole, from, to) {
+                if ticks.has(to) {
+                    return Some(to);
+                }
+                search.push(to, place);
+            }
+        }
+        None
+    }
+
+    // Searches on, breadth first, until a tight card leads to a format with a tick: answers the place that it leads from, and
+    // that format.
+    fn find(&self, ticks: &Ticks, search: &mut Search) -> Option<(usize, usize)>
+        requires searched { SearchedBy self.now ticks.now.sheet.now search.old }
+        requires long { length ticks.now.sheet.now ≡ 64 }
+        ensures searched { SearchedBy self.now ticks.now.sheet.now search.new }
+        ensures wider { Wider search.old.marks search.new.marks search.old.formats search.new.formats }
+        ensures answer { MatchOption result (ExhaustedBy self.now search.new) (λ p. (p.0 < length search.new.formats) × OnwardBy self.now ticks.now.sheet.now (slice_index search.new.formats p.0) p.1) }
+    {
+        let mut place = 0;
+        while place < search.count() {
+            if let Some(to) = self.scan(ticks, search, place) {
+                return Some((place, to));
+            }
+            place += 1;
+        }
+        None
+    }
+
+    // Lays the way from the search's first format to the place, and from there to a format with a tick: each format on it gets a
+    // tick, and its next format. It is laid from its end, so that each format leads to one that has a tick.
+    fn lay(
         &self,
+        search: &Search,
+        place: usize,
         to: usize,
         ticks: &mut Ticks,
         next: &mut [usize; MOST_FORMATS],
-        queue: &mut Queue,
     )
-        requires inside { (to < self.now.n) × (slice_index_or ticks.old.sheet.now to false ≡ true) }
-        requires growing { GrowingBy self.now ticks.old.sheet.now next.old queue.old.joined }
-        ensures growing { GrowingBy self.now ticks.new.sheet.now next.new queue.new.joined }
-        ensures wider { Wider ticks.old.sheet.now ticks.new.sheet.now queue.old.joined queue.new.joined }
-        ensures taken { queue.new.taken ≡ queue.old.taken }
-        ensures scanned { ScannedBy self.now ticks.new.sheet.now to }
+        requires searched { SearchedBy self.now ticks.old.sheet.now search.now }
+        requires inside { place < length search.now.formats }
+        requires onward { OnwardBy self.now ticks.old.sheet.now (slice_index search.now.formats place) to }
+        requires tended { TendedBy self.now ticks.old.sheet.now next.old }
+        ensures tended { TendedBy self.now ticks.new.sheet.now next.new }
+        ensures rises { Rises ticks.old.sheet.now ticks.new.sheet.now }
+        ensures first { slice_index_or ticks.new.sheet.now (slice_index search.now.formats 0) false ≡ true }
         ensures same { ticks.new.sheet.ghost_name ≡ ticks.old.sheet.ghost_name }
     {
-        let Some(onward) = self.rest(to) else {
-            return;
-        };
-        for from in 0..self.n {
-            if !ticks.has(from) && self.tight(onward, from, to) {
-                ticks.tick(from);
-                next[from] = to;
-                queue.push(from);
+        let mut place = place;
+        let mut to = to;
+        loop {
+            let from = search.format(place);
+            ticks.tick(from);
+            next[from] = to;
+            if place == 0 {
+                return;
             }
+            to = from;
+            place = search.origin(place);
         }
     }
 
-    // Whether each wanted format is in the tree.
-    fn has_all(&self, wanted: &[bool; MOST_FORMATS], ticks: &Ticks) -> bool
-        ensures { result ≡ true → Joined self.now.n wanted.now ticks.now.sheet.now }
+    // Leads from a format to the goal, where a walk does.
+    fn lead(&self, start: usize, ticks: &mut Ticks, next: &mut [usize; MOST_FORMATS])
+        requires inside { start < self.now.n }
+        requires tended { TendedBy self.now ticks.old.sheet.now next.old }
+        ensures tended { TendedBy self.now ticks.new.sheet.now next.new }
+        ensures rises { Rises ticks.old.sheet.now ticks.new.sheet.now }
+        ensures served { ServedBy self.now ticks.new.sheet.now start }
+        ensures same { ticks.new.sheet.ghost_name ≡ ticks.old.sheet.ghost_name }
     {
-        for format in 0..self.n {
-            if wanted[format] && !ticks.has(format) {
-                return false;
-            }
+        if ticks.has(start) {
+            return;
         }
-        true
+        let mut search = Search::new(start);
+        if let Some((place, to)) = self.find(ticks, &mut search) {
+            self.lay(&search, place, to, ticks, next);
+        }
     }
 
-    // Grows the tree of tight cards backwards from the goal, breadth first: each format that joins is scanned once, until
-    // all wanted ones have joined.
-    fn grow(
+    // Leads from each wanted format to the goal.
+    fn lead_all(
         &self,
         wanted: &[bool; MOST_FORMATS],
         ticks: &mut Ticks,
@@ -192,15 +270,14 @@ impl<C: Cost> Aim<'_, C> {
     )
         requires clear { Clear ticks.old.sheet.now }
         requires long { length ticks.old.sheet.now ≡ 64 }
-        ensures full { FullBy self.now wanted.now ticks.new.sheet.now next.new }
+        ensures tended { TendedBy self.now ticks.new.sheet.now next.new }
+        ensures served { (v : ℕ) → v < self.now.n → slice_index_or wanted.now v false ≡ true → ServedBy self.now ticks.new.sheet.now v }
         ensures same { ticks.new.sheet.ghost_name ≡ ticks.old.sheet.ghost_name }
     {
         ticks.tick(self.goal);
-        let mut queue = Queue::new(self.goal);
-        while let Some(to) = queue.pop() {
-            self.scan(to, ticks, next, &mut queue);
-            if self.has_all(wanted, ticks) {
-                break;
+        for start in 0..self.n {
+            if wanted[start] {
+                self.lead(start, ticks, next);
             }
         }
     }
@@ -227,5 +304,5 @@ pub fn trace<C: Cost>(
 {
     let mut ticks = Ticks { sheet };
     let aim = Aim { cells, n, goal };
-    aim.grow(wanted, &mut ticks, next);
+    aim.lead_all(wanted, &mut ticks, next);
 }

@@ -1,12 +1,13 @@
-use Rattle.walks.proofs.Tights.{cards_in_is, to_goal_is, tight_decided}
+use Rattle.std.proofs.Common.{sym, ap, ◌∙◌}
+use Rattle.std.specs.Option.{option_map}
+use Rattle.walks.proofs.Tights.{cards_in_is, tight_decided}
 use Rattle.walks.proofs.trail.Aim.tight.Goals as goal
 
 pub returns : goal.returns
 returns g c =
     let L = g.met.C.Cost.lawful in
     let value = g.C.Cost.value in
-    let aim = c.args.self.now.goal in
-    let (l, m, other, off) = c.requires.inside in
+    let (l, m, other) = c.requires.inside in
     tight_decided L value _ _ _ c.args.self.now.ready _ _ _ _ _ _ _
-    (cards_in_is L value _ _ aim _ _ _ _ l m other c.cell_at.ensures c.in-Some.is) c.requires.onward
-    (to_goal_is L value _ _ aim _ _ _ l off c.cell_at-2.ensures c.in-Some-least.is) c.join.ensures c.same.ensures
+    (cards_in_is L value _ _ c.args.self.now.goal _ _ _ _ l m other c.cell_at.ensures c.in-Some.is) (sym (ap (option_map value) c.in-Some-rest.is) ∙ c.rest.ensures)
+    c.requires.whole c.join.ensures c.same.ensures
