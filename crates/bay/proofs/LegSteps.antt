@@ -4,7 +4,7 @@ use lib.ListN.{length-map}
 use Rattle.std.proofs.lemmas.List.Edits.{take-paste}
 use Rattle.std.proofs.lemmas.List.{drop-take, same_lists, get_or-map, get_or-set_same, get_or_append_left, get_or_default, take-take}
 use Rattle.std.specs.List.{copy_within}
-use Rattle.walks.proofs.Growth.{still_ticked}
+use Rattle.walks.proofs.Searches.{still_ticked}
 use Rattle.bay.specs.declared.legs.Note.TheVariants.{Open}
 use Rattle.bay.specs.declared.legs.Leg.{Leg}
 use Rattle.bay.specs.declared.legs.Legs.{Legs}
