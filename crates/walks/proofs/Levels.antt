@@ -62,7 +62,7 @@ module _ {A : Algebra} (L : Lawful A) {C : Type 0} (value : C → A.Value) (n : 
           let e : suc h ≡ min (min s t) (h + 1) = omega arith in
           subst (λ j. LowLeast A card j s t (least_in A value n exit s t)) e
           (fold_step L card h s t _ _ _ _ calm (at h s t ls lt ne (omega arith)) (at h s h ls lh (λ d. absurd (omega arith)) (omega arith)) (at h h t lh lt (λ d. absurd (omega arith)) (omega arith))
-          (i.hit s t ls lt (omega arith, ls, omega arith, lt, ne)))
+          (i.hit s t ls lt (omega arith, ls, omega arith, lt)))
       go (inr l) =
           subst (LowLeast A card (min (min s t) (h + 1)) s t) (sym (i.missed s t ls lt (λ b. absurd (omega arith)))) (at (min (min s t) (h + 1)) s t ls lt ne (omega arith))
 

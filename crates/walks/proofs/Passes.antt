@@ -73,10 +73,10 @@ module _ (A : Algebra) {C : Type 0} (value : C → A.Value) (n : ℕ) where
   laid_kept entry exit k l = record { room = rw k.beyond.long l.room; sound = subst (Sound A n) (sym (cards_kept entry exit k)) l.sound }
 
   -- one write of the better cost is a pass over one cell
-  improved_write : (k s t : ℕ) (cells : List (Cell C)) (o : Option C) → n * n ≤ length cells → s < n → t < n → (s ≡ t → ⊥) →
+  improved_write : (k s t : ℕ) (cells : List (Cell C)) (o : Option C) → n * n ≤ length cells → s < n → t < n →
       LeastOf A (Either A (least_in A value n cells s t) (least_in A value n cells s k) (least_in A value n cells k t)) (option_map value o) →
       Improved A value n k (Block s (s + 1) t (t + 1)) cells (with_least n cells s t o)
-  improved_write k s t cells o room ls lt ne best = record { hit = hit; missed = missed; kept = kept_write n cells s t o room ls lt }
+  improved_write k s t cells o room ls lt best = record { hit = hit; missed = missed; kept = kept_write n cells s t o room ls lt }
     where
       hit : (a b : ℕ) → a < n → b < n → Block s (s + 1) t (t + 1) a b →
           LeastOf A (Either A (least_in A value n cells a b) (least_in A value n cells a k) (least_in A value n cells k b)) (least_in A value n (with_least n cells s t o) a b)
@@ -88,16 +88,16 @@ module _ (A : Algebra) {C : Type 0} (value : C → A.Value) (n : ℕ) where
           (subst (λ c. LeastOf A (Either A (least_in A value n cells s t) (least_in A value n cells s k) (least_in A value n cells k t)) (option_map value c)) (sym (least_here n cells s t o room ls lt)) best))
 
       missed : (a b : ℕ) → a < n → b < n → (Block s (s + 1) t (t + 1) a b → ⊥) → least_in A value n (with_least n cells s t o) a b ≡ least_in A value n cells a b
-      missed a b la lb h = ap (option_map value) (least_there n cells s t o a b lt lb (λ e. h (omega arith, omega arith, omega arith, omega arith, λ same. ne (sym e.0 ∙ same ∙ e.1))))
+      missed a b la lb h = ap (option_map value) (least_there n cells s t o a b lt lb (λ e. h (omega arith, omega arith, omega arith, omega arith)))
 
   -- the same, where the three costs were read
-  pub improved_read : (k s t : ℕ) (cells : List (Cell C)) (x : Cell C) (p q : Option A.Value) (o : Option C) → n * n ≤ length cells → s < n → t < n → (s ≡ t → ⊥) →
+  pub improved_read : (k s t : ℕ) (cells : List (Cell C)) (x : Cell C) (p q : Option A.Value) (o : Option C) → n * n ≤ length cells → s < n → t < n →
       x ≡ cell n cells s t → p ≡ least_in A value n cells s k → q ≡ least_in A value n cells k t →
       LeastOf A (Either A (option_map value x.least) p q) (option_map value o) →
       Improved A value n k (Block s (s + 1) t (t + 1)) cells (set cells (s * n + t) (record { card = x.card; least = o }))
-  improved_read k s t cells x p q o room ls lt ne ex ep eq best =
+  improved_read k s t cells x p q o room ls lt ex ep eq best =
       subst (λ x. Improved A value n k (Block s (s + 1) t (t + 1)) cells (set cells (s * n + t) (record { card = x.card; least = o }))) (sym ex)
-      (improved_write k s t cells o room ls lt ne
+      (improved_write k s t cells o room ls lt
       (subst₃ (λ x p q. LeastOf A (Either A (option_map value x.least) p q) (option_map value o)) ex ep eq best))
 
   -- a pass over cells that it leaves: their row has no cost to the pivot, or their column none from it
@@ -157,35 +157,23 @@ module _ (A : Algebra) {C : Type 0} (value : C → A.Value) (n : ℕ) where
       Improved A value n k (Block r r' c m) first second → Improved A value n k (Block r r' m c') second third → Improved A value n k (Block r r' c c') first third
   block_right k r r' c m c' first second third lk lm lm' rows columns =
       improved_then k (Block r r' c m) (Block r r' m c') (Block r r' c c') first second third lk (λ s t h. split s t h (cases_lt t m))
-      (λ s t h. (h.0, h.1, h.2, omega arith, h.4)) (λ s t h. (h.0, h.1, omega arith, h.3, h.4))
+      (λ s t h. (h.0, h.1, h.2, omega arith)) (λ s t h. (h.0, h.1, omega arith, h.3))
       (λ s t h. (λ g. absurd (omega arith), λ g. columns g.2 g.3, λ g. rows g.0 g.1))
     where
       split : (s t : ℕ) → Block r r' c c' s t → (t < m) ⊎ (m ≤ t) → Block r r' c m s t ⊎ Block r r' m c' s t
-      split s t h (inl l) = inl (h.0, h.1, h.2, l, h.4)
-      split s t h (inr l) = inr (h.0, h.1, l, h.3, h.4)
+      split s t h (inl l) = inl (h.0, h.1, h.2, l)
+      split s t h (inr l) = inr (h.0, h.1, l, h.3)
 
   pub block_down : (k r m r' c c' : ℕ) (first second third : List (Cell C)) → k < n → r ≤ m → m ≤ r' → (r ≤ k → k < m → ⊥) → (c ≤ k → k < c' → ⊥) →
       Improved A value n k (Block r m c c') first second → Improved A value n k (Block m r' c c') second third → Improved A value n k (Block r r' c c') first third
   block_down k r m r' c c' first second third lk lm lm' rows columns =
       improved_then k (Block r m c c') (Block m r' c c') (Block r r' c c') first second third lk (λ s t h. split s t h (cases_lt s m))
-      (λ s t h. (h.0, omega arith, h.2, h.3, h.4)) (λ s t h. (omega arith, h.1, h.2, h.3, h.4))
+      (λ s t h. (h.0, omega arith, h.2, h.3)) (λ s t h. (omega arith, h.1, h.2, h.3))
       (λ s t h. (λ g. absurd (omega arith), λ g. columns g.2 g.3, λ g. rows g.0 g.1))
     where
       split : (s t : ℕ) → Block r r' c c' s t → (s < m) ⊎ (m ≤ s) → Block r m c c' s t ⊎ Block m r' c c' s t
-      split s t h (inl l) = inl (h.0, l, h.2, h.3, h.4)
-      split s t h (inr l) = inr (l, h.1, h.2, h.3, h.4)
-
-  -- a row on both sides of its own format
-  pub block_beside : (k s c c' : ℕ) (first second third : List (Cell C)) → k < n → (s ≡ k → ⊥) → (c ≤ k → k < c' → ⊥) → c ≤ s → s < c' →
-      Improved A value n k (Block s (s + 1) c s) first second → Improved A value n k (Block s (s + 1) (s + 1) c') second third → Improved A value n k (Block s (s + 1) c c') first third
-  block_beside k s c c' first second third lk other columns ls ls' =
-      improved_then k (Block s (s + 1) c s) (Block s (s + 1) (s + 1) c') (Block s (s + 1) c c') first second third lk (λ a b h. split a b h (cases_lt b s))
-      (λ a b h. (h.0, h.1, h.2, omega arith, h.4)) (λ a b h. (h.0, h.1, omega arith, h.3, h.4))
-      (λ a b h. (λ g. absurd (omega arith), λ g. columns g.2 (omega arith), λ g. other (omega arith)))
-    where
-      split : (a b : ℕ) → Block s (s + 1) c c' a b → (b < s) ⊎ (s ≤ b) → Block s (s + 1) c s a b ⊎ Block s (s + 1) (s + 1) c' a b
-      split a b h (inl l) = inl (h.0, h.1, h.2, l, h.4)
-      split a b h (inr l) = inr (h.0, h.1, elim (cases_lt s b) [ inl d ↦ omega arith | inr d ↦ absurd (h.4 (omega arith)) ], h.3, h.4)
+      split s t h (inl l) = inl (h.0, l, h.2, h.3)
+      split s t h (inr l) = inr (l, h.1, h.2, h.3)
 
 -- y is held for the combination of the costs p and q: it is exact, so what is told by it is told by them
 module _ {A : Algebra} (L : Lawful A) (p q : Option A.Value) (joinable : ∥ Joinable A p q ∥₁) (a b y : A.Value) (ep : p ≡ Some a) (eq : q ≡ Some b)

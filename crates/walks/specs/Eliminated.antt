@@ -8,9 +8,9 @@ use Rattle.walks.specs.Theorems.{Either, Joined}
 use Rattle.walks.specs.Cells.{Kept, least_in, Each}
 use Rattle.walks.specs.declared.cells.Cell.{Cell}
 
--- the cells of two different formats in the rows from r to r' and the columns from c to c'
+-- the cells in the rows from r to r' and the columns from c to c'
 abbrev pub Block : ℕ → ℕ → ℕ → ℕ → ℕ → ℕ → Type 0
-Block r r' c c' s t = (r ≤ s) × (s < r') × (c ≤ t) × (t < c') × (s ≢ t)
+Block r r' c c' s t = (r ≤ s) × (s < r') × (c ≤ t) × (t < c')
 
 module _ (A : Algebra) where
   -- a cost that is there lies within one card more than there are formats

@@ -64,7 +64,6 @@ impl<C: Cost> Pivot<'_, C> {
         requires second { option_map C.Cost.value second ≡ least_in C.Cost.algebra C.Cost.value self.old.n self.old.cells.now self.old.at t }
         requires row { (s < self.old.n) × (s ≢ self.old.at) }
         requires column { (t < self.old.n) × (t ≢ self.old.at) }
-        requires apart { s ≢ t }
         ensures { Passed (Block s (s + 1) t (t + 1)) self.old self.new }
     {
         let (Some(one), Some(two)) = (first, second) else {
@@ -76,9 +75,9 @@ impl<C: Cost> Pivot<'_, C> {
         cell.least = better(cell.least, one, two);
     }
 
-    // Every cell of `s` and a format from `low` to `high`, by way of the pivot. `s` and the pivot are outside of them.
+    // Every cell of `s` and a format from `low` to `high`, by way of the pivot, which is outside of them.
     fn pass_row(&mut self, s: usize, low: usize, high: usize)
-        requires row { (s < self.old.n) × (s ≢ self.old.at) × ((low ≤ s) → (s < high) → ⊥) }
+        requires row { (s < self.old.n) × (s ≢ self.old.at) }
         requires columns { (low ≤ high) × (high ≤ self.old.n) × ((low ≤ self.old.at) → (self.old.at < high) → ⊥) }
         ensures { Passed (Block s (s + 1) low high) self.old self.new }
     {
@@ -93,16 +92,15 @@ impl<C: Cost> Pivot<'_, C> {
         }
     }
 
-    // Every cell of two formats from `low` to `high`, by way of the pivot, which is outside of them.
-    // Inlined, so that its loops keep the pivot in registers.
+    // Every cell of two formats from `low` to `high`, by way of the pivot, which is outside of them: the diagonal cells too, which
+    // belong to no pair, since whole rows take less time. Inlined, so that its loops keep the pivot in registers.
     #[inline(always)]
     fn pass(&mut self, low: usize, high: usize)
         requires square { (low ≤ high) × (high ≤ self.old.n) × ((low ≤ self.old.at) → (self.old.at < high) → ⊥) }
         ensures { Passed (Block low high low high) self.old self.new }
     {
         for s in low..high {
-            self.pass_row(s, low, s);
-            self.pass_row(s, s + 1, high);
+            self.pass_row(s, low, high);
         }
     }
 

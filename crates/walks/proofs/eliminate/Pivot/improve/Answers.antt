@@ -33,7 +33,7 @@ invariant_of-self g c =
     let means = option_map g.C.Cost.value in
     let here = ready_place _ _ _ _ _ p.ready _ _ c.requires.row.0 c.requires.column.0 in
     let improved = improved_read g.C.Cost.algebra g.C.Cost.value p.n p.at c.args.s c.args.t p.cells.now _ _ _ c.better-cell.result (ready_room _ _ _ _ _ p.ready)
-    c.requires.row.0 c.requires.column.0 c.requires.apart (get_or_default _ _ _ _ here)
+    c.requires.row.0 c.requires.column.0 (get_or_default _ _ _ _ here)
     (sym (ap means c.in-Some-Some.is-0) ∙ c.requires.first) (sym (ap means c.in-Some-Some.is-1) ∙ c.requires.second) c.better-cell.ensures in
     record { ready = ∥∥₁_map p.ready (ready_kept _ _ _ _ _ _ _ (λ j. (λ h. c.requires.column.1 (omega arith), λ h. c.requires.row.1 (omega arith))) improved) }
 
@@ -45,7 +45,7 @@ returns g c =
     record {
       same = record { n = refl; at = refl; cells = refl };
       improved = improved_read g.C.Cost.algebra g.C.Cost.value p.n p.at c.args.s c.args.t p.cells.now _ _ _ c.better-cell.result (ready_room _ _ _ _ _ p.ready)
-          c.requires.row.0 c.requires.column.0 c.requires.apart (get_or_default _ _ _ _ here)
+          c.requires.row.0 c.requires.column.0 (get_or_default _ _ _ _ here)
           (sym (ap means c.in-Some-Some.is-0) ∙ c.requires.first) (sym (ap means c.in-Some-Some.is-1) ∙ c.requires.second) c.better-cell.ensures;
     }
 
