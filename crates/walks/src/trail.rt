@@ -47,8 +47,8 @@ impl Drop for Ticks<'_> {
 // for each.
 #[derive(Drop)]
 struct Search {
-    formats: [usize; MOST_FORMATS],
-    origins: [usize; MOST_FORMATS],
+    formats: [u8; MOST_FORMATS],
+    origins: [u8; MOST_FORMATS],
     marks: [bool; MOST_FORMATS],
     count: usize,
 }
@@ -73,7 +73,7 @@ impl Search {
         let mut marks = [false; MOST_FORMATS];
         marks[start] = true;
         Search {
-            formats: [start; MOST_FORMATS],
+            formats: [start as u8; MOST_FORMATS],
             origins: [0; MOST_FORMATS],
             marks,
             count: 1,
@@ -90,14 +90,14 @@ impl Search {
         requires { place < length self.now.formats }
         ensures { result ≡ slice_index self.now.formats place }
     {
-        self.formats[..self.count][place]
+        usize::from(self.formats[..self.count][place])
     }
 
     fn origin(&self, place: usize) -> usize
         requires { place < length self.now.origins }
         ensures { result ≡ slice_index self.now.origins place }
     {
-        self.origins[..self.count][place]
+        usize::from(self.origins[..self.count][place])
     }
 
     fn has(&self, format: usize) -> bool
@@ -110,11 +110,11 @@ impl Search {
     // Adds a format, which was reached from the one at the place.
     fn push(&mut self, format: usize, origin: usize)
         requires room { length self.old.formats < 64 }
-        requires inside { format < length self.old.marks }
+        requires inside { (format < 64) × (origin < length self.old.formats) }
         ensures { self.new ≡ record { formats = self.old.formats ++ format ∷ []; origins = self.old.origins ++ origin ∷ []; marks = slice_set self.old.marks format true } }
     {
-        self.formats[self.count] = format;
-        self.origins[self.count] = origin;
+        self.formats[self.count] = format as u8;
+        self.origins[self.count] = origin as u8;
         self.marks[format] = true;
         self.count += 1;
     }

@@ -32,7 +32,8 @@ push-requires-clause-room g c =
     (sym c.has.ensures ∙ c.if-not-has.true)
 
 pub push-requires-clause-inside : goal.push-requires-clause-inside
-push-requires-clause-inside g c = omega (arith, c.loop-to-test.true, aim_few g.C.Cost.value _ _ _ c.args.self.now.ready, c.loop-to.invariant.0.long_marks)
+push-requires-clause-inside g c =
+    (omega (arith, c.loop-to-test.true, aim_few g.C.Cost.value _ _ _ c.args.self.now.ready), omega (arith, c.requires.inside, c.loop-to.invariant.1.rises))
 
 pub loop-to-preserved : goal.loop-to-preserved
 loop-to-preserved g c =
