@@ -1,4 +1,4 @@
--- Following a table of next formats until t: the lists met, how they agree, and the tree of tight cards that grows in such a table.
+-- Following a table of next formats until t: the lists met, how they agree, and the tree that grows in such a table.
 -- `ticked` says who is in the tree, by format, and `next` the next format of each one that is.
 use Rattle.std.proofs.Common.{◌≡◌, ℕ, zero, suc, ◌<◌, ◌≤◌, Bool, true, false, not, ◌⊎◌, List, [], ◌∷◌, ◌++◌, length, get_or, set, replicate, is_some, Some, Option, unwrap_or, sym, refl, ap, ◌∙◌, subst, ap₂, inl, inr}
 use lib.ListN.{get_or-eq_default}
@@ -143,8 +143,8 @@ module _ (A : Algebra) (card : ℕ → ℕ → Option A.Value) (d : ℕ → Opti
   pub led_chain : (v : ℕ) (k : Led A card d t ticked next v) → (v ≡ t → ⊥) → (ms : List ℕ) × (k.formats ≡ path v ms t) × Chain A card (path v ms t)
   led_chain v k ne = let (ms, e) = follows_path next t v k.formats ne k.follows in (ms, e, (rw e at (k.walks ne), rw e at k.distinct))
 
--- A set of formats without t that has each format with a tight card from the set: no walk leads from it to t. What is left out of
--- it is a tree that has t, and each format with a tight card into it.
+-- A set of formats without t that has each format with a tight card from the set: no walk leads from it to t. What is left
+-- out of it is a tree that has t, and each format with a tight card into it.
 module _ {A : Algebra} (L : Lawful A) (n : ℕ) (card : ℕ → ℕ → Option A.Value) (sound : Sound A n card) (gainless : Gains A card → ⊥)
     (t : ℕ) (d : ℕ → Option A.Value) (at_t : d t ≡ Some A.unit) (least : (v : ℕ) → (v ≡ t → ⊥) → Least A card v t (d v))
     (marks : List Bool) (without : get_or marks t false ≡ false)

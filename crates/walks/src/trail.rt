@@ -10,7 +10,8 @@ use costs::Cost;
 use registers::MOST_FORMATS;
 use std::marker::Model;
 
-// A tick for each format from which `next` leads to the goal, in an array by format as `next` is. All ticks are gone when it ends.
+// A tick for each format from which `next` leads to the goal, in an array by format as `next` is. All ticks are gone when
+// it ends.
 struct Ticks<'a> {
     sheet: &'a mut [bool; MOST_FORMATS],
 }
