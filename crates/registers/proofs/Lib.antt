@@ -1,3 +1,4 @@
 pub mod HouseCards
 pub mod Meanings
 pub mod Bars
+pub mod Reversals

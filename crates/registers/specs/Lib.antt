@@ -4,3 +4,4 @@ pub mod Text
 pub mod Meaning
 pub mod House
 pub mod Bar
+pub mod Reversed

@@ -7,6 +7,7 @@ mod bar;
 mod fault;
 mod house;
 mod judge;
+mod reversed;
 
 ghost use Rattle.std.specs.Prelude.{◌≡◌, ◌≤◌, true, IfSome};
 ghost use Rattle.std.specs.Option.{option_map};
@@ -18,6 +19,7 @@ use costs::Cost;
 pub use fault::{Code, EndsFault, Layer, RegisterFault};
 pub use house::HouseTable;
 pub use judge::{judge_ends, judge_entry};
+pub use reversed::Reversed;
 
 // A register has at least so many formats.
 pub const LEAST_FORMATS: usize = 2;
