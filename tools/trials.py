@@ -22,7 +22,7 @@ class Dice:
 
 
 class Model:
-    """A dict of cards, a number of places, formats that are barred, and whether all is sealed."""
+    """A dict of cards, a number of places, formats that are barred, whether all is sealed, and whether cards are turned round."""
 
     def __init__(self, n, places, sealed=False):
         self.n = min(max(n, 2), 64)
@@ -30,6 +30,10 @@ class Model:
         self.sealed = sealed
         self.cards = {}
         self.barred = set()
+        self.turned = False
+
+    def pair(self, a, b):
+        return (b, a) if self.turned else (a, b)
 
     def ends(self, a, b):
         if a >= self.n:
@@ -48,9 +52,10 @@ class Model:
             return "13.2"
         if self.is_sealed(a, b):
             return "21.0"
-        if (a, b) not in self.cards and len(self.cards) == self.places:
+        pair = self.pair(a, b)
+        if pair not in self.cards and len(self.cards) == self.places:
             return "23.0"
-        self.cards[a, b] = cost
+        self.cards[pair] = cost
         return "ok"
 
     def withdraw(self, a, b):
@@ -58,15 +63,14 @@ class Model:
             return refused
         if self.is_sealed(a, b):
             return "21.0"
-        if (a, b) not in self.cards:
+        if self.cards.pop(self.pair(a, b), None) is None:
             return "22.0"
-        del self.cards[a, b]
         return "ok"
 
     def card(self, a, b):
         if self.ends(a, b) or self.is_sealed(a, b):
             return "-"
-        return self.cards.get((a, b), "-")
+        return self.cards.get(self.pair(a, b), "-")
 
 
 BOUNDS = [1000000, 1000001, -1000000, -1000001, 2**31 - 1, -(2**31)]
@@ -110,7 +114,12 @@ def play_all(name, model, dice):
     play("under a bar", model, dice, 150)
     model.barred = {2, 0, 4, 63}
     play("under two bars", model, dice, 100)
+    model.turned = True
+    play("turned round", model, dice, 100)
+    model.barred = {2, 0, 4, 63, 3}
+    play("turned round under a bar", model, dice, 50)
     model.barred = set()
+    model.turned = False
     play("bare again", model, dice, 50)
 
 
@@ -258,7 +267,9 @@ def trial(kind, number, dice):
         a = dice.below(n)
         b = dice.below(n - 1)
         legs.append((a, b if b < a else b + 1))
-    both(f"{kind} {number}", route(kind, n, cards, legs))
+    text = route(kind, n, cards, legs)
+    both(f"{kind} {number}", text)
+    print(f"{kind} {number}, from the outputs:{text}")
 
 
 def trials():

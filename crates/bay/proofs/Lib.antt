@@ -7,3 +7,4 @@ pub mod RouteCall
 pub mod Answering
 pub mod RunSteps
 pub mod OneAfterOther
+pub mod BothWays

@@ -7,5 +7,6 @@ pub mod Routes
 pub mod Routing
 pub mod Runs
 pub mod OneByOne
+pub mod Facing
 pub mod Places
 pub mod Lent

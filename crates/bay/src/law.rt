@@ -1,4 +1,5 @@
-// The law over whole runs, of calls that are given one by one.
+// Laws of routes: over whole runs, of calls that are given one by one; and from the output side.
+ghost use Rattle.bay.specs.Facing.{FromOutputs};
 ghost use Rattle.bay.specs.OneByOne.{OneByOne};
 
 use costs::Cost;
@@ -6,4 +7,9 @@ use costs::Cost;
 // Does nothing; its contract is the law of any calls made one after the other on a bay, a new one or one in use.
 pub fn one_by_one<C: Cost>()
     ensures { OneByOne C.Cost.algebra {C = C} C.Cost.value }
+{}
+
+// Does nothing; its contract is the law of a route from the output side: one over cards that are turned round.
+pub fn from_outputs<C: Cost>()
+    ensures { FromOutputs C.Cost.algebra {C = C} C.Cost.value }
 {}

@@ -17,5 +17,5 @@ mod writing;
 pub use bays::Bay;
 pub use calls::{Answer, CHAIN_BYTES, Call, Routes, Stopped};
 pub use fault::BayFault;
-pub use law::one_by_one;
+pub use law::{from_outputs, one_by_one};
 pub use legs::{Ends, Leg, MOST_LEGS, Note};

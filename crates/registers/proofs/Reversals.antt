@@ -8,9 +8,6 @@ use Rattle.registers.specs.declared.fault.Code.{Code}
 use Rattle.registers.specs.Meaning.{Meaning, meant, possible, put, standing, entered, withdrawn}
 use Rattle.registers.proofs.Meanings.{same_meaning, possible_parts, possible_ends}
 
-pub reversed_meant : {C V : Type 0} (v : C → V) (m : Meaning C) → meant v (reversed m) ≡ reversed (meant v m)
-reversed_meant v m = refl
-
 -- a pair can have a card either way round, or neither way
 pub possible_turned : (n a b : ℕ) → possible n a b ≡ possible n b a
 possible_turned n a b = both_ways _ _ (turned a b) (turned b a)

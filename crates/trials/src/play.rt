@@ -1,7 +1,7 @@
 // Plays pseudo-random calls on a register, and prints every tenth with a checksum over all so far.
 use crate::dice::Dice;
 use costs::Delay;
-use registers::{Bar, Code, Register, RegisterFault};
+use registers::{Bar, Code, Register, RegisterFault, Reversed};
 use std::alloc::{AllocError, Global};
 use std::fmt;
 
@@ -109,7 +109,8 @@ pub fn play<R: Register<Cost = Delay>>(
     Ok(())
 }
 
-// Calls on the register, then under one bar and under two, and on the register again.
+// Calls on the register, then under one bar and under two, turned round over these and under a third bar over that, and on the
+// register again.
 pub fn play_all<R: Register<Cost = Delay> + Drop>(
     rt: &HostRuntime,
     name: &str,
@@ -121,6 +122,10 @@ pub fn play_all<R: Register<Cost = Delay> + Drop>(
     play(rt, "under a bar", &mut barred, dice, 150)?;
     let mut piled = Bar::new(barred, 9_223_372_036_854_775_825);
     play(rt, "under two bars", &mut piled, dice, 100)?;
-    let mut bare = piled.into_below().into_below();
+    let mut turned = Reversed::new(piled);
+    play(rt, "turned round", &mut turned, dice, 100)?;
+    let mut topped = Bar::new(turned, 8);
+    play(rt, "turned round under a bar", &mut topped, dice, 50)?;
+    let mut bare = topped.into_below().into_below().into_below().into_below();
     play(rt, "bare again", &mut bare, dice, 50)
 }

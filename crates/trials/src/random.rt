@@ -1,7 +1,7 @@
 // Pseudo-random jobs of a few formats.
 use crate::dice::Dice;
 use crate::kind::Kind;
-use crate::route::{Card, Job, route_both};
+use crate::route::{Card, Job, route_both, route_reversed};
 use bay::Ends;
 use costs::{Delay, Depth};
 use std::alloc::{AllocError, Global};
@@ -50,7 +50,25 @@ fn trial<C: Kind>(rt: &HostRuntime, name: &str, dice: &mut Dice) -> anyhow::Resu
         legs: &legs,
         chains: false,
     };
-    route_both::<C>(rt, name, &job)
+    route_both::<C>(rt, name, &job)?;
+    // The same cards and legs, as they look from the output side: each leg costs the same there.
+    let cards = cards
+        .iter()
+        .map(Card::reversed)
+        .collect::<Vec<_>>(rt.alloc())?;
+    let legs = legs
+        .iter()
+        .map(|leg| Ends {
+            from: leg.to,
+            to: leg.from,
+        })
+        .collect::<Vec<_>>(rt.alloc())?;
+    let turned = Job {
+        cards: &cards,
+        legs: &legs,
+        ..job
+    };
+    route_reversed::<C>(rt, name, &turned)
 }
 
 pub fn random_trials(rt: &HostRuntime) -> anyhow::Result<()> {

@@ -2,7 +2,7 @@
 use crate::kind::Kind;
 use bay::{Bay, BayFault, Ends, Leg, Note};
 use lent::{Entry, List, Matrix};
-use registers::Register;
+use registers::{Register, Reversed};
 use std::alloc::{AllocError, Global};
 use walks::{Cell, ROW};
 
@@ -11,6 +11,17 @@ pub struct Card {
     pub from: usize,
     pub to: usize,
     pub number: i32,
+}
+
+impl Card {
+    // The card turned round.
+    pub fn reversed(&self) -> Card {
+        Card {
+            from: self.to,
+            to: self.from,
+            number: self.number,
+        }
+    }
 }
 
 // Cards to enter and legs to route; whether chains are to be printed too.
@@ -267,4 +278,12 @@ pub fn route_both<C: Kind>(rt: &HostRuntime, name: &str, job: &Job) -> anyhow::R
     let mut entries: Vec<Option<Entry<C>>> = vec![in heap; None; job.cards.len().max(1)]?;
     print!(rt; "{name}, list:")?;
     settle::<C, _>(rt, List::new(job.n, &mut entries), job)
+}
+
+// Does a job over a list that is seen from the output side.
+pub fn route_reversed<C: Kind>(rt: &HostRuntime, name: &str, job: &Job) -> anyhow::Result<()> {
+    let heap = rt.alloc();
+    let mut entries: Vec<Option<Entry<C>>> = vec![in heap; None; job.cards.len().max(1)]?;
+    print!(rt; "{name}, from the outputs:")?;
+    settle::<C, _>(rt, Reversed::new(List::new(job.n, &mut entries)), job)
 }

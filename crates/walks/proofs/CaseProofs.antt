@@ -11,8 +11,11 @@ use Rattle.costs.specs.Depth.{depth, Bits, bits, deepest}
 use Rattle.registers.specs.Meaning.{Meaning, pair, standing, meant}
 use Rattle.registers.specs.House.{house}
 use Rattle.registers.specs.Bar.{barred}
+use Rattle.registers.proofs.Reversals.{reversed_standing}
+use Rattle.costs.specs.DelayLaws.{delay_lawful}
 use Rattle.walks.specs.Walk.{path, Walk, cost, WalkCosts, Least, Gains}
-use Rattle.walks.specs.Cases.{cards_of, WorkedCases, even_ring, free_pair, open_house, barred_house, deeper_way}
+use Rattle.walks.proofs.Backwards.{least_back}
+use Rattle.walks.specs.Cases.{cards_of, WorkedCases, even_ring, free_pair, open_house, barred_house, reversed_house, deeper_way}
 
 -- a test of a card that stands
 abbrev pub passes : {V : Type 0} → (V → Bool) → Option V → Bool
@@ -173,6 +176,9 @@ barred_kept = table_passes (λ a b c. not (elsewhere a) || elsewhere b) (meant (
 depth_few : Pass (cards_of deeper_way) (λ a b c. not (eqb b 2) || leb c.count 8)
 depth_few = list_passes (λ a b c. not (eqb b 2) || leb c.count 8) deeper_way refl
 
+house_4_2 : Least delay open_house 4 2 (Some (negsuc 0))
+house_4_2 = least_by_heights open_house house_heights house_rises 4 2 (negsuc 0) (3 ∷ 0 ∷ [], (refl, (refl, refl)), refl) refl
+
 pub worked_cases : WorkedCases
 worked_cases = record {
   ring_gains = (0, 1 ∷ 2 ∷ [], (refl, (refl, refl)), record { lt = tt });
@@ -182,11 +188,13 @@ worked_cases = record {
   pair_from_1 = least_by_heights (cards_of free_pair) pair_heights pair_rises 1 2 (pos 5) (0 ∷ [], (refl, refl), refl) refl;
   elsewhere_gains = (2, 3 ∷ [], (refl, refl), record { lt = tt });
   house_is_even = no_gain open_house house_heights house_rises;
-  house_4_2 = least_by_heights open_house house_heights house_rises 4 2 (negsuc 0) (3 ∷ 0 ∷ [], (refl, (refl, refl)), refl) refl;
+  house_4_2 = house_4_2;
   house_chain_4_2 = (((refl, (refl, refl)), omega arith), refl);
   house_4_6 = least_by_heights open_house house_heights house_rises 4 6 (pos 2) (3 ∷ 0 ∷ [], (refl, (refl, refl)), refl) refl;
   house_chain_4_6 = (((refl, (refl, refl)), omega arith), refl);
   house_other_4_6 = (((refl, (refl, (refl, refl))), omega arith), refl);
+  reversed_2_4 = least_back delay_lawful open_house reversed_house (reversed_standing (meant (λ d. d.lines) house)) 4 2 (Some (negsuc 0)) house_4_2;
+  reversed_chain_2_4 = (((refl, (refl, refl)), omega arith), refl);
   barred_4_2 = no_walk delay barred_house elsewhere barred_kept 4 2 refl refl;
   barred_4_6 = least_by_heights barred_house house_heights barred_rises 4 6 (pos 2) (3 ∷ 5 ∷ 1 ∷ [], (refl, (refl, (refl, refl))), refl) refl;
   barred_chain_4_6 = (((refl, (refl, (refl, refl))), omega arith), refl);

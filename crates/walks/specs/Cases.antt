@@ -8,6 +8,7 @@ use Rattle.costs.specs.declared.delay.Delay.{Delay}
 use Rattle.registers.specs.Meaning.{Meaning, meant, standing}
 use Rattle.registers.specs.House.{house}
 use Rattle.registers.specs.Bar.{barred}
+use Rattle.registers.specs.Reversed.{reversed}
 use Rattle.walks.specs.Walk.{cost, Chain, Least, Gains}
 
 -- the cards of a list, each by the format that it leads from, the format that it leads to, and its cost
@@ -43,12 +44,15 @@ free_pair = (0, 1, pos 0) ∷ (1, 0, pos 0) ∷ (0, 2, pos 5) ∷ []
 abbrev pub gain_elsewhere : List (ℕ × ℕ × ℤ)
 gain_elsewhere = (2, 3, back 1) ∷ (3, 2, pos 0) ∷ []
 
--- the house table as it is, and with the format 0 barred
+-- the house table as it is, with the format 0 barred, and with every card turned round
 abbrev pub open_house : ℕ → ℕ → Option ℤ
 open_house = delays_of house
 
 abbrev pub barred_house : ℕ → ℕ → Option ℤ
 barred_house = delays_of (barred 1 house)
+
+abbrev pub reversed_house : ℕ → ℕ → Option ℤ
+reversed_house = delays_of (reversed house)
 
 -- a shallow card, and a deeper way round it
 abbrev pub deeper_way : List (ℕ × ℕ × Bits)
@@ -79,6 +83,10 @@ pub record WorkedCases : Type 0 where
   pub house_chain_4_6 : ChainCosts delay open_house (4 ∷ 3 ∷ 0 ∷ 6 ∷ []) (pos 2)
   -- and another, longer one does not
   pub house_other_4_6 : ChainCosts delay open_house (4 ∷ 3 ∷ 5 ∷ 1 ∷ 6 ∷ []) (pos 2)
+  -- with every card turned round, from 2 to 4 at best one line is given back
+  pub reversed_2_4 : Least delay reversed_house 2 4 (Some (back 1))
+  -- by the chain from 4 to 2, backwards
+  pub reversed_chain_2_4 : ChainCosts delay reversed_house (2 ∷ 0 ∷ 3 ∷ 4 ∷ []) (back 1)
   -- with 0 barred no walk leads from 4 to 2
   pub barred_4_2 : Least delay barred_house 4 2 None
   -- with 0 barred the least cost from 4 to 6 is still two lines
