@@ -1,4 +1,4 @@
--- A route over cards that are turned round finds what one over the cards as they stand does: each walk leads back at its cost.
+-- A route over cards that are turned round finds loops and costs as one over the cards as they stand: each walk leads back at its cost.
 -- That both keep the promises of a route is taken from their answers; nothing of how a route is made is looked at.
 use Rattle.std.proofs.Common.{◌≡◌, ℕ, suc, ◌⊎◌, List, [], ◌∷◌, ◌++◌, length, get_or, is_some, None, Option, sym, ap, ◌∙◌, inl, inr, arith}
 use Rattle.std.proofs.lemmas.Bool.{false≢true}
@@ -15,11 +15,11 @@ use Rattle.bay.specs.Routing.{FoundLoop, Granted, RouteAnswer}
 use Rattle.bay.specs.Facing.{Opposite, Alike, Routing, Fair, Loops, FromOutputs}
 use Rattle.bay.specs.declared.legs.Ends.{Ends}
 
-module _ {A : Algebra} (L : Lawful A) where
-  -- a loop that was written gains
-  looped_gains : (card : ℕ → ℕ → Option A.Value) (row : List ℕ) → Looped A card row → Gains A card
-  looped_gains card row l = (l.start, l.inner, l.loop.0, l.gains)
+-- a loop that was written gains
+pub looped_gains : (A : Algebra) (card : ℕ → ℕ → Option A.Value) (row : List ℕ) → Looped A card row → Gains A card
+looped_gains A card row l = (l.start, l.inner, l.loop.0, l.gains)
 
+module _ {A : Algebra} (L : Lawful A) where
   -- what is written for a leg over the cards, and for one that leads the other way over the cards turned round
   module _ (card back : ℕ → ℕ → Option A.Value) (turned : (a b : ℕ) → back a b ≡ card b a) (leg other : Ends) (opposite : Opposite leg other)
       (row row' : List ℕ) (x y : A.Value) where
@@ -35,7 +35,7 @@ module _ {A : Algebra} (L : Lawful A) where
     no_chain : (fs : List ℕ) (a b : ℕ) → row_of (path a fs b) ≡ row_of [] → ⊥
     no_chain fs a b e = let n : suc (length (fs ++ b ∷ [])) ≡ 0 = ap (λ r. get_or r 0 0) e in absurd (omega (arith, n))
 
-    pub leg_alike : Found card leg row x → Found back other row' y → Alike (row ≡ row_of []) (row' ≡ row_of []) × (x ≡ y)
+    leg_alike : Found card leg row x → Found back other row' y → Alike (row ≡ row_of []) (row' ≡ row_of []) × (x ≡ y)
     leg_alike (inl p) (inl q) = ((λ _. q.row_is, λ _. p.row_is), p.costs ∙ sym q.costs)
     leg_alike (inl p) (inr q) = let (ms, w, e) = again q.inner q.chain.0 in absurd (p.no_walk ms w)
     leg_alike (inr p) (inl q) = let (ns, w, e) = there p.inner p.chain.0 in absurd (q.no_walk ns w)
@@ -67,7 +67,7 @@ module _ {A : Algebra} (L : Lawful A) {C : Type 0} (value : C → A.Value) where
             FoundLoop A value other.bay other.before other.now other.answer ⊎ Granted A value other.bay other.before other.now other.answer → Loops A value other
         go (inr h) way = absurd (false≢true (ap is_some (ap refused (sym h.answers) ∙ e)))
         go (inl h) (inl k) = k.answers
-        go (inl h) (inr k) = absurd (k.no_loop (gains_back L (standing one.bay.register) (standing other.bay.register) turned (looped_gains L (standing one.bay.register) _ h.loop)))
+        go (inl h) (inr k) = absurd (k.no_loop (gains_back L (standing one.bay.register) (standing other.bay.register) turned (looped_gains A (standing one.bay.register) _ h.loop)))
 
     -- granted as one of them is, so is the other
     granted_too : refused one.answer ≡ None → Granted A value one.bay one.before one.now one.answer × Granted A value other.bay other.before other.now other.answer
@@ -78,7 +78,7 @@ module _ {A : Algebra} (L : Lawful A) {C : Type 0} (value : C → A.Value) where
             Granted A value one.bay one.before one.now one.answer × Granted A value other.bay other.before other.now other.answer
         go (inl h) way = absurd (false≢true (ap is_some (sym e ∙ h.answers)))
         go (inr h) (inl k) =
-            absurd (h.no_loop (gains_back L (standing other.bay.register) (standing one.bay.register) (λ a b. sym (turned b a)) (looped_gains L (standing other.bay.register) _ k.loop)))
+            absurd (h.no_loop (gains_back L (standing other.bay.register) (standing one.bay.register) (λ a b. sym (turned b a)) (looped_gains A (standing other.bay.register) _ k.loop)))
         go (inr h) (inr k) = (h, k)
 
   pub from_outputs : FromOutputs A {C = C} value

@@ -55,6 +55,6 @@ module _ (A : Algebra) {C : Type 0} (value : C → A.Value) where
         Opposite (slice_index_or one.bay.legs j no_ends) (slice_index_or other.bay.legs k no_ends) →
         Alike (Chainless one j) (Chainless other k) × (value (slice_index_or one.now.costs j d) ≡ value (slice_index_or other.now.costs k d))
 
-  -- Whatever the register and the legs: a route from the output side finds what one from the input side does.
+  -- Whatever the register and the legs: a route from the output side finds a loop, chains and costs as one from the input side does.
   abbrev pub FromOutputs : Type 0
   FromOutputs = (one other : Routing) → Facing one.bay other.bay → Fair one → Fair other → Mirrored one other

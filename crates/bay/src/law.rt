@@ -1,4 +1,4 @@
-// Laws of routes: over whole runs, of calls that are given one by one; and from the output side.
+// Laws of a bay: of runs whose calls are given one by one, and of routes from the output side.
 ghost use Rattle.bay.specs.Facing.{FromOutputs};
 ghost use Rattle.bay.specs.OneByOne.{OneByOne};
 

@@ -1,11 +1,11 @@
 -- A bar commutes with what its register's calls do, at pairs that touch no barred format.
-use Rattle.std.proofs.Common.{◌≡◌, ℕ, Bool, true, false, cond, ◌&&◌, eqb, Some, None, Option, sym, refl, ap, ◌∙◌}
+use Rattle.std.proofs.Common.{◌≡◌, ℕ, Bool, true, false, cond, ◌&&◌, eqb, Some, None, Option, refl, ap, ◌∙◌}
 use Rattle.std.proofs.lemmas.Bool.{and_parts, eqb-true}
 use Rattle.registers.specs.Bar.{touches, barred}
 use Rattle.registers.specs.Fault.{after}
 use Rattle.registers.specs.declared.fault.Code.{Code}
 use Rattle.registers.specs.Meaning.{Meaning, meant, put, standing, entered, withdrawn}
-use Rattle.registers.proofs.Meanings.{same_meaning, mapped_cond}
+use Rattle.registers.proofs.Meanings.{same_meaning, mapped_cond, after_over}
 
 pub barred_meant : {C V : Type 0} (bits : ℕ) (v : C → V) (m : Meaning C) → meant v (barred bits m) ≡ barred bits (meant v m)
 barred_meant bits v m = same_meaning _ _ refl (λ a b. mapped_cond v (touches bits a b) None (m.cards a b)) (λ a b. refl) refl
@@ -32,12 +32,11 @@ module _ {V : Type 0} (bits : ℕ) (m : Meaning V) (a b : ℕ) (untouched : touc
 
 -- the calls of a bar at an untouched pair, from those of the register below: m is held at entry and k at exit
 module _ {C V : Type 0} (v : C → V) (bits : ℕ) (m k : Meaning C) (a b : ℕ) (untouched : touches bits a b ≡ false) where
-  after_step : (r : Option Code) (step : Meaning V → Meaning V) → step (barred bits (meant v m)) ≡ barred bits (step (meant v m)) → meant v k ≡ after r (meant v m) (step (meant v m)) → meant v (barred bits k) ≡ after r (meant v (barred bits m)) (step (meant v (barred bits m)))
-  after_step None step same e = barred_meant bits v k ∙ ap (barred bits) e ∙ sym same ∙ sym (ap step (barred_meant bits v m))
-  after_step (Some f) step same e = barred_meant bits v k ∙ ap (barred bits) e ∙ sym (barred_meant bits v m)
+  over_step : (r : Option Code) (step : Meaning V → Meaning V) → step (barred bits (meant v m)) ≡ barred bits (step (meant v m)) → meant v k ≡ after r (meant v m) (step (meant v m)) → meant v (barred bits k) ≡ after r (meant v (barred bits m)) (step (meant v (barred bits m)))
+  over_step r step same e = after_over (barred bits) r _ _ _ _ _ _ (barred_meant bits v m) (ap step (barred_meant bits v m) ∙ same) (barred_meant bits v k) e
 
   pub barred_after_enter : (r : Option Code) (x : V) → meant v k ≡ after r (meant v m) (entered (meant v m) a b x) → meant v (barred bits k) ≡ after r (meant v (barred bits m)) (entered (meant v (barred bits m)) a b x)
-  barred_after_enter r x e = after_step r (λ h. entered h a b x) (barred_entered bits (meant v m) a b untouched x) e
+  barred_after_enter r x e = over_step r (λ h. entered h a b x) (barred_entered bits (meant v m) a b untouched x) e
 
   pub barred_after_withdraw : (r : Option Code) → meant v k ≡ after r (meant v m) (withdrawn (meant v m) a b) → meant v (barred bits k) ≡ after r (meant v (barred bits m)) (withdrawn (meant v (barred bits m)) a b)
-  barred_after_withdraw r e = after_step r (λ h. withdrawn h a b) (barred_withdrawn bits (meant v m) a b untouched) e
+  barred_after_withdraw r e = over_step r (λ h. withdrawn h a b) (barred_withdrawn bits (meant v m) a b untouched) e

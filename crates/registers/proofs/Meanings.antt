@@ -2,7 +2,8 @@
 use Rattle.std.proofs.Common.{◌≡◌, ℕ, ◌+◌, ◌-◌, ◌<◌, Bool, true, false, cond, not, ◌&&◌, eqb, ltb, is_some, Some, None, Option, sym, refl, ap, ◌∙◌}
 use Rattle.std.specs.Option.{option_map}
 use Rattle.std.proofs.lemmas.Bool.{and_parts, not-true, ltb-true, eqb-false, lt-ltb, ne_eqb, eq-eqb}
-use Rattle.registers.specs.Fault.{first_cause, code}
+use Rattle.registers.specs.Fault.{first_cause, code, after}
+use Rattle.registers.specs.declared.fault.Code.{Code}
 use Rattle.registers.specs.declared.fault.Layer.TheVariants.{Register}
 use Rattle.registers.specs.Meaning.{Meaning, meant, possible, standing, put, entered, withdrawn, enter_causes}
 
@@ -53,3 +54,9 @@ module _ {C V : Type 0} (v : C → V) (m k : Meaning C) (a b : ℕ) (ends : poss
 
   pub withdraw_after : k.size ≡ m.size → ((c d : ℕ) → k.cards c d ≡ put m.cards a b None c d) → ((c d : ℕ) → k.sealed c d ≡ m.sealed c d) → k.free ≡ m.free + 1 → meant v k ≡ withdrawn (meant v m) a b
   withdraw_after n c s f = same_meaning _ _ n (λ p q. ap (option_map v) (c p q) ∙ mapped_cond v (eqb a p && eqb b q) None (m.cards p q)) s f
+
+-- what a call leaves under a register that lies over another, from what it leaves below
+pub after_over : {V : Type 0} (over : Meaning V → Meaning V) (r : Option Code) (before next now : Meaning V) (before' next' now' : Meaning V) →
+    before' ≡ over before → next' ≡ over next → now' ≡ over now → now ≡ after r before next → now' ≡ after r before' next'
+after_over over None before next now before' next' now' eb ex en e = en ∙ ap over e ∙ sym ex
+after_over over (Some f) before next now before' next' now' eb ex en e = en ∙ ap over e ∙ sym eb

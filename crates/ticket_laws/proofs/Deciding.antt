@@ -5,6 +5,7 @@ use Rattle.registers.specs.Fault.{first_cause}
 use Rattle.registers.specs.Meaning.{standing}
 use Rattle.registers.specs.declared.fault.Code.{Code}
 use Rattle.walks.specs.Walk.{Gains}
+use Rattle.bay.proofs.BothWays.{looped_gains}
 use Rattle.bay.specs.Faults.{bay_code, refused}
 use Rattle.bay.specs.Plain.{Plain}
 use Rattle.bay.specs.Routes.{Looped}
@@ -106,9 +107,6 @@ refused_outcome (Ok n) c e = absurd (let z : ◌≡◌ {A = ℕ} 0 1 = cc in ome
 refused_outcome (Err f) c e = let same : bay_code f ≡ c = cc in ap Err same
 
 module _ (A : Algebra) {C : Type 0} (value : C → A.Value) where
-  pub looped_gains : (card : ℕ → ℕ → Option A.Value) (row : List ℕ) → Looped A card row → Gains A card
-  looped_gains card row l = (l.start, l.inner, l.loop.0, l.gains)
-
   -- a route is told in one way, whatever it leaves
   one_outcome : (p : Plain A.Value) (legs legs' noted noted' : List Leg) (k k' k'' : OfKind C) (c c' c'' : Common) (r r' : Result ℕ BayFault) →
       RouteAnswer A value p (desk legs k c) (desk noted k' c') r → RouteAnswer A value p (desk legs' k c) (desk noted' k'' c'') r' → outcome r ≡ outcome r'
@@ -119,8 +117,8 @@ module _ (A : Algebra) {C : Type 0} (value : C → A.Value) where
   one_outcome p legs legs' noted noted' k k' k'' c c' c'' r r' (inr (inl t)) (inl u) = absurd (none≢some _ u.cause t.no_cause u.holds)
   one_outcome p legs legs' noted noted' k k' k'' c c' c'' r r' (inr (inr t)) (inl u) = absurd (none≢some _ u.cause t.no_cause u.holds)
   one_outcome p legs legs' noted noted' k k' k'' c c' c'' r r' (inr (inl t)) (inr (inl u)) = refused_outcome r _ t.answers ∙ sym (refused_outcome r' _ u.answers)
-  one_outcome p legs legs' noted noted' k k' k'' c c' c'' r r' (inr (inl t)) (inr (inr u)) = absurd (u.no_loop (looped_gains (standing p.register) _ t.loop))
-  one_outcome p legs legs' noted noted' k k' k'' c c' c'' r r' (inr (inr t)) (inr (inl u)) = absurd (t.no_loop (looped_gains (standing p.register) _ u.loop))
+  one_outcome p legs legs' noted noted' k k' k'' c c' c'' r r' (inr (inl t)) (inr (inr u)) = absurd (u.no_loop (looped_gains A (standing p.register) _ t.loop))
+  one_outcome p legs legs' noted noted' k k' k'' c c' c'' r r' (inr (inr t)) (inr (inl u)) = absurd (t.no_loop (looped_gains A (standing p.register) _ u.loop))
   one_outcome p legs legs' noted noted' k k' k'' c c' c'' r r' (inr (inr t)) (inr (inr u)) = ap outcome (t.answers ∙ sym u.answers)
 
   module _ (cost_of : ℤ → C) (text : List ℕ) (from : ℕ) (k k' k'' : OfKind C) (c c' c'' : Common) (answer other : Result ℕ Refusal) where

@@ -1,11 +1,10 @@
 -- Following a table of next formats until t: the lists met, how they agree, and the tree that grows in such a table.
 -- `ticked` says who is in the tree, by format, and `next` the next format of each one that is.
-use Rattle.std.proofs.Common.{◌≡◌, ℕ, zero, suc, ◌<◌, ◌≤◌, Bool, true, false, not, ◌⊎◌, List, [], ◌∷◌, ◌++◌, length, get_or, set, replicate, is_some, Some, Option, unwrap_or, sym, refl, ap, ◌∙◌, subst, ap₂, inl, inr}
-use lib.ListN.{get_or-eq_default}
+use Rattle.std.proofs.Common.{◌≡◌, ℕ, zero, suc, ◌<◌, Bool, true, false, not, ◌⊎◌, List, [], ◌∷◌, ◌++◌, length, get_or, set, replicate, is_some, Some, Option, unwrap_or, sym, refl, ap, ◌∙◌, subst, ap₂, inl, inr}
 use Rattle.std.proofs.lemmas.List.{get_or-set_same, get_or-set_other}
-use Rattle.std.proofs.lemmas.Bool.{cases_lt, cases_eq, cases_Bool, both_ways}
+use Rattle.std.proofs.lemmas.Bool.{cases_eq, cases_Bool, both_ways}
 use Rattle.costs.specs.Algebra.{Algebra, Lawful}
-use Rattle.walks.specs.Walk.{path, Below, Absent, Distinct, LeastOf, Walk, cost, Chain, WalkCosts, Least, Gains, Tight}
+use Rattle.walks.specs.Walk.{path, Absent, Distinct, LeastOf, Walk, cost, Chain, WalkCosts, Least, Gains, Tight}
 use Rattle.walks.specs.Theorems.{Sound}
 use Rattle.walks.specs.Tracing.{Follows, Ticked, Led, Grown}
 use Rattle.walks.proofs.Tree.{tree_reaches}
@@ -39,21 +38,13 @@ module _ (next : List ℕ) (t : ℕ) where
       let e = follows_same m (m ∷ bs) (m ∷ ds) (follows_from v ps m bs (rw p at h)) (follows_from w cs m ds (rw q at k)) in
       cc
 
-  pub follows_path : (v : ℕ) (fs : List ℕ) → (v ≡ t → ⊥) → Follows next t v fs → (ms : List ℕ) × (fs ≡ path v ms t)
+  follows_path : (v : ℕ) (fs : List ℕ) → (v ≡ t → ⊥) → Follows next t v fs → (ms : List ℕ) × (fs ≡ path v ms t)
   follows_path v [] ne h = absurd h
   follows_path v (f ∷ []) ne h = absurd (ne h.1)
   follows_path v (f ∷ g ∷ []) ne h = ([], ap₂ (λ x y. x ∷ y ∷ []) h.0 (h.2.0 ∙ h.2.1))
   follows_path v (f ∷ g ∷ k ∷ fs) ne h =
       let (ms, e) = follows_path (get_or next v 0) (g ∷ k ∷ fs) h.2.1 h.2 in
       (get_or next v 0 ∷ ms, ap (λ x. x ∷ g ∷ k ∷ fs) h.0 ∙ ap (λ xs. v ∷ xs) e)
-
-pub ticked_below : (ticked : List Bool) (fs : List ℕ) → Ticked ticked fs → Below (length ticked) fs
-ticked_below ticked [] k = tt
-ticked_below ticked (f ∷ fs) k = (go (cases_lt f (length ticked)), ticked_below ticked fs k.1)
-  where
-    go : (f < length ticked) ⊎ (length ticked ≤ f) → f < length ticked
-    go (inl l) = l
-    go (inr g) = absurd (both_ways _ (get_or-eq_default ticked false g) k.0)
 
 pub none_ticked : (n v : ℕ) → get_or (replicate n false) v false ≡ false
 none_ticked zero v = refl

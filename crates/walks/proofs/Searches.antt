@@ -45,12 +45,12 @@ distinct_at (f ∷ fs) (suc j) (suc k) l m d = distinct_at fs j k (le_of_suc-le-
 
 module _ (n : ℕ) (marks : List Bool) (formats : List ℕ) (lined : Lined n marks formats) (v : ℕ) (l : v < n) (free : get_or marks v false ≡ false) where
   -- while a format has no mark, the list has not all of them
-  pub lined_room : length formats < n
+  lined_room : length formats < n
   lined_room =
       let few = distinct_few n (v ∷ formats) (l, lined.below) (absent_free marks v free formats lined.inside, lined.distinct) in
       omega arith
 
-  pub lined_more : n ≤ length marks → Lined n (set marks v true) (formats ++ v ∷ [])
+  lined_more : n ≤ length marks → Lined n (set marks v true) (formats ++ v ∷ [])
   lined_more t =
       let on = get_or-set_same marks v true false (omega arith) in
       record {
@@ -73,16 +73,13 @@ still_ticked marks v x l e = go (cases_eq x v)
     go (inl d) = rw d (get_or-set_same marks v true false l)
     go (inr ne) = get_or-set_other marks v x true false ne ∙ e
 
-pub wider_more : (before marks : List Bool) (formats longer : List ℕ) (v : ℕ) → v < length marks → Wider before marks formats longer →
+wider_more : (before marks : List Bool) (formats longer : List ℕ) (v : ℕ) → v < length marks → Wider before marks formats longer →
     Wider before (set marks v true) formats (longer ++ v ∷ [])
 wider_more before marks formats longer v l w = record {
   rises = omega (arith, w.rises, length-append longer (v ∷ []));
   marks = λ x e. still_ticked marks v x l (w.marks x e);
   front = λ k b. get_or_append_left longer (v ∷ []) 0 k (omega (arith, w.rises)) ∙ w.front k b;
 }
-
-pub wider_same : (marks : List Bool) (formats : List ℕ) → Wider marks marks formats formats
-wider_same marks formats = record { rises = omega arith; marks = λ v e. e; front = λ k l. refl }
 
 pub wider_on : (marks later last : List Bool) (formats longer longest : List ℕ) → Wider marks later formats longer → Wider later last longer longest →
     Wider marks last formats longest
@@ -127,9 +124,6 @@ module _ {A : Algebra} (L : Lawful A) {C : Type 0} (value : C → A.Value) (n : 
 
   abbrev Leads : ℕ → ℕ → Type 0
   Leads = TightIn A value n cells goal
-
-  pub turn_start : (ticked : List Bool) (r : Reached) (v : ℕ) → Seeks ticked r → Turn A value n cells goal ticked r v 0 r
-  turn_start ticked r v s = (s, wider_same r.marks r.formats, λ w l. absurd (omega arith))
 
   pub searched_at : (ticked : List Bool) (r : Reached) → Seeks ticked r → (k : ℕ) → k < length r.formats →
       (get_or r.formats k 0 < n) × (get_or r.marks (get_or r.formats k 0) false ≡ true)

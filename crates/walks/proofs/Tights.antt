@@ -36,9 +36,6 @@ module _ {A : Algebra} (L : Lawful A) {C : Type 0} (value : C → A.Value) (n : 
   pub to_goal_inside : (v : ℕ) → v < n → (v ≡ goal → ⊥) → to_goal A value n cells goal v ≡ least_in A value n cells v v
   to_goal_inside v l ne = cond-false (eqb v goal) _ _ (ne_eqb v goal ne) ∙ cond-true (ltb v n) _ _ (lt-ltb v n l)
 
-  pub to_goal_is : (v : ℕ) (r : Cell C) (x : C) → v < n → (v ≡ goal → ⊥) → r ≡ cell n cells v v → r.least ≡ Some x → Some (value x) ≡ to_goal A value n cells goal v
-  to_goal_is v r x l ne d e = sym (to_goal_inside v l ne ∙ ap (option_map value) (ap (λ y. y.least) (sym d) ∙ e))
-
   pub to_goal_outside : (v : ℕ) → n ≤ v → (v ≡ goal → ⊥) → to_goal A value n cells goal v ≡ None
   to_goal_outside v l ne = cond-false (eqb v goal) _ _ (ne_eqb v goal ne) ∙ cond-false (ltb v n) _ _ (le-ltb v n l)
 

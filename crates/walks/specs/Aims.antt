@@ -20,7 +20,7 @@ module _ {C : Type 0} {K : _} (p : Aim C K) where
   abbrev pub OnwardBy : List Bool → ℕ → ℕ → Type 0
   OnwardBy = Onward K.algebra K.value p.n p.cells.now p.goal
 
-  -- a search among formats without a tick
+  -- a search among formats without a tick: a tight card leads to each but the first, from an earlier one
   abbrev pub SearchedBy : List Bool → Reached → Type 0
   SearchedBy = Searched K.algebra K.value p.n p.cells.now p.goal
 
@@ -28,10 +28,10 @@ module _ {C : Type 0} {K : _} (p : Aim C K) where
   abbrev pub ExhaustedBy : Reached → Type 0
   ExhaustedBy = Exhausted K.algebra K.value p.n p.cells.now p.goal
 
-  -- `next` leads to the goal from each format with a tick
+  -- `next` leads to the goal from each format with a tick, and the goal has one
   abbrev pub TendedBy : List Bool → List ℕ → Type 0
   TendedBy = Tended K.algebra K.value p.n p.cells.now p.goal
 
-  -- v has a tick, or no walk leads from it to the goal
+  -- v has a tick, or the table has no cost from it to the goal
   abbrev pub ServedBy : List Bool → ℕ → Type 0
   ServedBy = Served K.algebra K.value p.n p.cells.now p.goal

@@ -17,7 +17,7 @@ Follows next t v (f ∷ g ∷ fs) = (f ≡ v) × (v ≢ t) × Follows next t (sl
 abbrev pub Clear : List Bool → Type 0
 Clear ticked = (v : ℕ) → slice_index_or ticked v false ≡ false
 
--- every format of the list is in the tree
+-- every format of the list has a tick, or a mark
 abbrev pub Ticked : List Bool → List ℕ → Type 0
 Ticked ticked [] = Unit {0}
 Ticked ticked (f ∷ fs) = (slice_index_or ticked f false ≡ true) × Ticked ticked fs
@@ -103,7 +103,7 @@ module _ (A : Algebra) {C : Type 0} (value : C → A.Value) (n : ℕ) (cells : L
     pub long_ticked : length ticked ≡ most_formats
     pub long_next : length next ≡ most_formats
 
-  -- v has a tick, or no walk leads from it to the goal
+  -- v has a tick, or the table has no cost from it to the goal
   abbrev pub Served : List Bool → ℕ → Type 0
   Served ticked v = (slice_index_or ticked v false ≡ true) ⊎ ((x : A.Value) → to_goal v ≡ Some x → ⊥)
 

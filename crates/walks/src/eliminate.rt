@@ -92,8 +92,8 @@ impl<C: Cost> Pivot<'_, C> {
         }
     }
 
-    // Every cell of two formats from `low` to `high`, by way of the pivot, which is outside of them: the diagonal cells too, which
-    // belong to no pair, since whole rows take less time. Inlined, so that its loops keep the pivot in registers.
+    // Every cell of two formats from `low` to `high`, by way of the pivot, which is outside of them: the diagonal cells too,
+    // which belong to no pair, since whole rows take less time. Inlined, so that its loops keep the pivot in registers.
     #[inline(always)]
     fn pass(&mut self, low: usize, high: usize)
         requires square { (low ≤ high) × (high ≤ self.old.n) × ((low ≤ self.old.at) → (self.old.at < high) → ⊥) }

@@ -1,5 +1,5 @@
 // Chains of least cost to a goal, read from a table whose diagonal has each format's least cost to it.
-ghost use Rattle.std.specs.Prelude.{◌≡◌, ℕ, Some, ◌+◌, ◌<◌, ◌≤◌, true, false, [], ◌∷◌, ◌++◌, length, MatchOption, Decides, ◌≢◌, replicate, slice_index, slice_index_or, slice_set};
+ghost use Rattle.std.specs.Prelude.{◌≡◌, ℕ, Some, ◌<◌, ◌≤◌, true, false, [], ◌∷◌, ◌++◌, length, MatchOption, Decides, ◌≢◌, replicate, slice_index, slice_index_or, slice_set};
 ghost use Rattle.std.specs.Option.{option_map};
 ghost use Rattle.walks.specs.Cells.{Laid, cards_in, least_in};
 ghost use Rattle.walks.specs.Walk.{Gains, Least};
@@ -169,8 +169,8 @@ impl<C: Cost> Aim<'_, C> {
         same(card.join(onward), whole)
     }
 
-    // Goes over the tight cards from the format at the place: answers the first that leads to a format with a tick, else
-    // adds those that have no mark to the search. A format is its number, so the loop goes over the numbers.
+    // Goes over the tight cards from the format at the place, and adds the formats without a mark that they lead to, until one
+    // leads to a format with a tick, which it answers. A format is its number, so the loop goes over the numbers.
     fn scan(&self, ticks: &Ticks, search: &mut Search, place: usize) -> Option<usize>
         requires inside { place < length search.old.formats }
         requires searched { SearchedBy self.now ticks.now.sheet.now search.old }
@@ -262,7 +262,7 @@ impl<C: Cost> Aim<'_, C> {
         }
     }
 
-    // Leads from each wanted format to the goal.
+    // Leads from each wanted format to the goal, where a walk does.
     fn lead_all(
         &self,
         wanted: &[bool; MOST_FORMATS],

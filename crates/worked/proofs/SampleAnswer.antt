@@ -22,7 +22,8 @@ use Rattle.ticket.specs.Kinds.{delay_of}
 use Rattle.ticket.specs.Said.{begins, in_front, Passes}
 use Rattle.ticket.specs.declared.fault.Refusal.{Refusal}
 use Rattle.ticket.specs.declared.serve.Granted.{Granted}
-use Rattle.ticket_laws.proofs.Deciding.{one_read, not_both, one_way, refused_not_passed, none≢some, looped_gains}
+use Rattle.ticket_laws.proofs.Deciding.{one_read, not_both, one_way, refused_not_passed, none≢some}
+use Rattle.bay.proofs.BothWays.{looped_gains}
 use Rattle.listing.specs.Output.{Printed}
 use Rattle.listing.specs.Text.{listing_text, leg_text, formats_of, text_from, pieces}
 use Rattle.listing.specs.declared.answer.PlaceShort.{PlaceShort}
