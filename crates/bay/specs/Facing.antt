@@ -1,9 +1,9 @@
 -- Two bays over the same cards, where the second one has every card turned round: what a route of the one says of a route of
 -- the other.
-use Rattle.std.specs.Prelude.{◌≡◌, ℕ, ◌<◌, [], length, Some, None, Result, slice_index_or}
+use Rattle.std.specs.Prelude.{◌≡◌, ℕ, ◌<◌, List, [], length, Some, None, Result, slice_index_or}
 use Rattle.costs.specs.Algebra.{Algebra}
 use Rattle.registers.specs.Fault.{code}
-use Rattle.registers.specs.Meaning.{standing}
+use Rattle.registers.specs.Meaning.{Meaning, meant, standing}
 use Rattle.registers.specs.Reversed.{reversed}
 use Rattle.registers.specs.declared.fault.Layer.TheVariants.{Bay}
 use Rattle.walks.specs.Sheet.{row_at, row_of}
@@ -27,6 +27,11 @@ abbrev pub Alike : Type 0 → Type 0 → Type 0
 Alike P Q = (P → Q) × (Q → P)
 
 module _ (A : Algebra) {C : Type 0} (value : C → A.Value) where
+  -- a bay over a reversed register faces one over the register below
+  abbrev pub ReversedFaces : Type 0
+  ReversedFaces = (m : Meaning C) (legs others : List Ends) →
+      Facing (record { register = meant value m; legs = legs }) (record { register = meant value (reversed m); legs = others })
+
   -- a route that was made: the plain bay, what the route worked on before and after it, and its answer
   pub record Routing : Type 0 where
     pub bay : Plain A.Value
@@ -47,14 +52,15 @@ module _ (A : Algebra) {C : Type 0} (value : C → A.Value) where
   abbrev pub Chainless : Routing → ℕ → Type 0
   Chainless r k = row_at r.now.chains k ≡ row_of []
 
-  -- Both routes are refused for a loop, or neither is. Where they are granted, a leg and one that leads the other way have a chain
-  -- both or neither, and cost the same.
+  -- Both routes are refused for a loop, or neither is. Where they are granted, a leg and one that leads the other way have a
+  -- chain both or neither, and cost the same.
   pub record Mirrored (one other : Routing) : Type 0 where
     pub loops : Alike (Loops one) (Loops other)
     pub legs : refused one.answer ≡ None → (d : C) (j k : ℕ) → j < length one.bay.legs → k < length other.bay.legs →
         Opposite (slice_index_or one.bay.legs j no_ends) (slice_index_or other.bay.legs k no_ends) →
         Alike (Chainless one j) (Chainless other k) × (value (slice_index_or one.now.costs j d) ≡ value (slice_index_or other.now.costs k d))
 
-  -- Whatever the register and the legs: a route from the output side finds a loop, chains and costs as one from the input side does.
+  -- Whatever the register and the legs: a route from the output side finds a loop, chains and costs as one from the input side
+  -- does.
   abbrev pub FromOutputs : Type 0
   FromOutputs = (one other : Routing) → Facing one.bay other.bay → Fair one → Fair other → Mirrored one other

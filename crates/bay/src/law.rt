@@ -1,5 +1,5 @@
 // Laws of a bay: of runs whose calls are given one by one, and of routes from the output side.
-ghost use Rattle.bay.specs.Facing.{FromOutputs};
+ghost use Rattle.bay.specs.Facing.{FromOutputs, ReversedFaces};
 ghost use Rattle.bay.specs.OneByOne.{OneByOne};
 
 use costs::Cost;
@@ -11,5 +11,6 @@ pub fn one_by_one<C: Cost>()
 
 // Does nothing; its contract is the law of a route from the output side: one over cards that are turned round.
 pub fn from_outputs<C: Cost>()
-    ensures { FromOutputs C.Cost.algebra {C = C} C.Cost.value }
+    ensures faces { ReversedFaces C.Cost.algebra {C = C} C.Cost.value }
+    ensures outputs { FromOutputs C.Cost.algebra {C = C} C.Cost.value }
 {}
