@@ -70,7 +70,7 @@ module _ (m m' : Memory) (room : Room m) (answer : Result ℕ Refusal) where
   routed : (place : ℕ) (legs noted : List Leg) (result : Result ℕ BayFault) → RouteAnswer delay (λ d. d.lines) sample_said.plain (desk legs m.delay m.common) (desk noted m'.delay m'.common) result → answer ≡ at_byte place result →
       m'.common.codes ≡ in_front sample_said.codes m.common.codes → m'.common.ends ≡ in_front sample_said.plain.legs m.common.ends → Right
   routed place legs noted result (inl t) e f g = absurd (none≢some _ t.cause no_early t.holds)
-  routed place legs noted result (inr (inl t)) e f g = absurd (calm (looped_gains delay (λ (d : Delay). d.lines) card _ t.loop))
+  routed place legs noted result (inr (inl t)) e f g = absurd (calm (looped_gains delay card _ t.loop))
   routed place legs noted result (inr (inr t)) e f g =
       let some : Delay = delay_of (pos 0) in
       let one = first_leg _ _ ((t.routed some).each 0 (omega arith)) in
