@@ -1,5 +1,9 @@
 /* Calls the routes of the library with many small sets of cards and legs, sound and unsound, and compares what it is told with an
- * implementation of the same rules that shares no code: rounds of relaxation over all cards. Prints how many calls there were. */
+ * implementation of the same rules that shares no code: rounds of relaxation over all cards. Has a ticket answered too, beside the
+ * answer that it must get. Prints how many calls of routes there were.
+ *
+ * Each export is called, and what it is not to write is compared as well, so that a library in which two slices of an export stand in
+ * another order than in the header does not pass: no proof knows the header. */
 #include "hurzelma.h"
 
 #include <stdbool.h>
@@ -230,9 +234,33 @@ static uint32_t call(const struct job *job, struct left *left) {
     return told;
 }
 
+static const char ticket[] = "(bay delay 2)\n(format 0 UYVY)\n(format 1 v210)\n(card (0 1) -4)\n(leg (0 1))\n(leg (1 0))\n(end)\n";
+static const char answer[] = "(leg 0 (0 1) -4 (UYVY v210))\n(leg 1 (1 0) none)\n(end)\n";
+
+enum { WANTED = sizeof answer - 1 };
+
+/* Whether the ticket is answered rightly in a place of so many bytes, at most one more than are wanted, and nothing else is written. */
+static bool is_answered(size_t room) {
+    uint8_t text[sizeof ticket], place[WANTED + 2], right[WANTED + 2];
+    size_t length = SIZE_MAX;
+    memcpy(text, ticket, sizeof text);
+    memset(place, 9, sizeof place);
+    memset(right, 9, sizeof right);
+    if (WANTED <= room) memcpy(right, answer, WANTED);
+    uint32_t told = hurzelma_answer(text, sizeof ticket - 1, place, room, &length);
+    return told == (WANTED <= room ? HURZELMA_WRITTEN : HURZELMA_PLACE_SHORT) && length == WANTED &&
+           memcmp(text, ticket, sizeof text) == 0 && memcmp(place, right, sizeof place) == 0;
+}
+
 int main(void) {
     static struct job job;
     unsigned granted = 0, loops = 0;
+    for (size_t room = WANTED - 1; room <= WANTED + 1; room++) {
+        if (!is_answered(room)) {
+            printf("a ticket is answered wrongly in a place of %zu bytes\n", room);
+            return 1;
+        }
+    }
     for (unsigned i = 0; i < CALLS; i++) {
         struct left before, after;
         draw_job(&job);

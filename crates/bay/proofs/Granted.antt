@@ -7,7 +7,8 @@ use Rattle.std.proofs.lemmas.Bool.{lt-leb}
 use Rattle.registers.specs.Fault.{after, code}
 use Rattle.registers.specs.declared.fault.Code.{Code}
 use Rattle.registers.specs.declared.fault.Layer.TheVariants.{Bay}
-use Rattle.bay.specs.Legs.{opened, struck}
+use Rattle.bay.specs.Leg.{opened}
+use Rattle.bay.specs.Legs.{struck}
 use Rattle.bay.specs.Plain.{ends}
 use Rattle.bay.specs.declared.legs.Leg.{Leg}
 

@@ -4,12 +4,14 @@ use lib.ListN.{length-map}
 use Rattle.std.proofs.lemmas.List.Edits.{take-paste}
 use Rattle.std.proofs.lemmas.List.{drop-take, same_lists, get_or-map, get_or-set_same, get_or_append_left, get_or_default, take-take}
 use Rattle.std.specs.List.{copy_within}
-use Rattle.walks.proofs.Searches.{still_ticked}
+use Rattle.registers.specs.Meaning.{most_formats}
+use Rattle.bay.proofs.Searches.{still_ticked}
 use Rattle.bay.specs.declared.legs.Note.TheVariants.{Open}
 use Rattle.bay.specs.declared.legs.Leg.{Leg}
 use Rattle.bay.specs.declared.legs.Legs.{Legs}
 use Rattle.bay.specs.Leg.{Apart, no_leg, noted}
-use Rattle.bay.specs.Legs.{booked, opened, struck}
+use Rattle.bay.specs.Leg.{opened}
+use Rattle.bay.specs.Legs.{booked, struck}
 
 pub length_booked : (l : Legs) → length (booked l) ≡ l.count
 length_booked l = length-take-le l.count l.list (omega (arith, l.long, l.few))
@@ -48,25 +50,25 @@ apart_opened n legs fits apart k lt =
 
 -- of the first n legs, each that ends in the goal has a tick where it begins
 abbrev pub Started : List Leg → ℕ → ℕ → List Bool → Type 0
-Started legs goal n starts = (length starts ≡ 64) ×
-    ((k : ℕ) → k < n → (get_or legs k no_leg).to ≡ goal → (get_or legs k no_leg).from < 64 → get_or starts (get_or legs k no_leg).from false ≡ true)
+Started legs goal n starts = (length starts ≡ most_formats) ×
+    ((k : ℕ) → k < n → (get_or legs k no_leg).to ≡ goal → (get_or legs k no_leg).from < most_formats → get_or starts (get_or legs k no_leg).from false ≡ true)
 
-pub started_more : (legs : List Leg) (goal n : ℕ) (starts : List Bool) → Started legs goal n starts → (leg : Leg) → leg ≡ get_or legs n no_leg → leg.from < 64 →
+pub started_more : (legs : List Leg) (goal n : ℕ) (starts : List Bool) → Started legs goal n starts → (leg : Leg) → leg ≡ get_or legs n no_leg → leg.from < most_formats →
     (starts' : List Bool) → starts' ≡ set starts leg.from true → Started legs goal (n + 1) starts'
 started_more legs goal n starts (long, seen) leg is few starts' e =
     let inside : leg.from < length starts = omega (arith, long) in
     rw e (
       length-set starts leg.from true ∙ long,
-      below_more (λ k. (get_or legs k no_leg).to ≡ goal → (get_or legs k no_leg).from < 64 → get_or (set starts leg.from true) (get_or legs k no_leg).from false ≡ true) n
+      below_more (λ k. (get_or legs k no_leg).to ≡ goal → (get_or legs k no_leg).from < most_formats → get_or (set starts leg.from true) (get_or legs k no_leg).from false ≡ true) n
           (λ k l to from. still_ticked starts leg.from (get_or legs k no_leg).from inside (seen k l to from))
           (λ to from. subst (λ x. get_or (set starts leg.from true) x.from false ≡ true) is (get_or-set_same starts leg.from true false inside)),
     )
 
 pub started_passes : (legs : List Leg) (goal n : ℕ) (starts : List Bool) → Started legs goal n starts →
-    ((get_or legs n no_leg).to ≡ goal → (get_or legs n no_leg).from < 64 → ⊥) → (starts' : List Bool) → starts' ≡ starts → Started legs goal (n + 1) starts'
+    ((get_or legs n no_leg).to ≡ goal → (get_or legs n no_leg).from < most_formats → ⊥) → (starts' : List Bool) → starts' ≡ starts → Started legs goal (n + 1) starts'
 started_passes legs goal n starts (long, seen) none starts' e =
     rw e (
       long,
-      below_more (λ k. (get_or legs k no_leg).to ≡ goal → (get_or legs k no_leg).from < 64 → get_or starts (get_or legs k no_leg).from false ≡ true) n seen
+      below_more (λ k. (get_or legs k no_leg).to ≡ goal → (get_or legs k no_leg).from < most_formats → get_or starts (get_or legs k no_leg).from false ≡ true) n seen
           (λ to from. absurd (none to from)),
     )

@@ -1,15 +1,17 @@
--- Calls that are made one after the other keep the law over runs: by recursion over the calls, since the plain bay and the
--- legs after the first call are where the rest begins.
-use Rattle.std.proofs.Common.{zero, suc, [], ◌∷◌, map, get_or, take, ap, ◌∙◌, subst, subst₂, le_of_suc-le-suc, arith}
-use Rattle.costs.specs.Algebra.{Algebra}
-use Rattle.bay.specs.OneByOne.{OneByOne, answer_of, call_of, no_call}
-use Rattle.bay.specs.Runs.{Right, legs_after, legs_step, plain_after, room_for}
+-- Calls that are made one after the other keep the law: by recursion over the calls, since the plain bay and the legs after the
+-- first call are where the rest begins.
+use Rattle.std.proofs.Common.{◌≡◌, ℕ, zero, suc, List, [], ◌∷◌, map, get_or, take, sym, refl, ap, ◌∙◌, subst₂, le_of_suc-le-suc, arith}
+use Rattle.costs.specs.declared.Cost.{Ghosts as Kind}
+use Rattle.bay.specs.Calls.{Called, Made}
+use Rattle.bay.specs.Plain.{Plain}
+use Rattle.bay.specs.Runs.{OneByOne, Right, call_of, legs_after, no_call, plain_after}
+use Rattle.bay.specs.declared.legs.Leg.{Leg}
+use Rattle.bay.proofs.Answering.{told}
 
-pub one_by_one : (A : Algebra) {C : Type 0} (value : C → A.Value) → OneByOne A value
-one_by_one A value p legs [] given i h = absurd (omega arith)
-one_by_one A value p legs (m ∷ ms) (q, same, done, rest) zero h = subst (λ l. Right A value (room_for A value m.before) p l m.call m.answer) same done.right
-one_by_one A value p legs (m ∷ ms) (q, same, done, rest) (suc i) h =
-    subst₂ (λ x l. Right A value (room_for A value (get_or ms i no_call).before) (plain_after A value x (take i (map call_of ms))) (legs_after l (take i (map call_of ms)) (take i (map answer_of ms)))
-    (get_or ms i no_call).call (get_or ms i no_call).answer)
-    done.plain_is (done.legs ∙ ap (λ l. legs_step l m.call m.answer) same)
-    (one_by_one A value q m.now.legs ms rest i (le_of_suc-le-suc h))
+pub one_by_one : {C : Type 0} (K : Kind C) → OneByOne K
+one_by_one K p legs [] given i h = absurd (omega arith)
+one_by_one K p legs (m ∷ ms) (p', legs', called, rest) zero h = (told p legs legs' m.call m.answer m.before m.after _ refl p' called).0
+one_by_one K p legs (m ∷ ms) (p', legs', called, rest) (suc i) h =
+    let now = told p legs legs' m.call m.answer m.before m.after _ refl p' called in
+    subst₂ (λ q l. Right (plain_after q (take i (map call_of ms))) (legs_after l (take i ms)) (get_or ms i no_call)) called.plain_is now.1
+    (one_by_one K p' legs' ms rest i (le_of_suc-le-suc h))

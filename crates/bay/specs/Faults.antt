@@ -5,7 +5,7 @@ use Rattle.registers.specs.declared.fault.Layer.TheVariants.{Bay}
 use Rattle.registers.specs.declared.fault.RegisterFault.{RegisterFault}
 use Rattle.registers.specs.Fault.{code, register_code}
 use Rattle.bay.specs.declared.fault.BayFault.{BayFault}
-use Rattle.bay.specs.declared.fault.BayFault.TheVariants.{Register, FromOutside, ToOutside, SameEnds, NoLeg, TableShort, CostsShort, ChainsShort, LegsFull, NoLegs, Loop}
+use Rattle.bay.specs.declared.fault.BayFault.TheVariants.{Register, FromOutside, ToOutside, SameEnds, NoLeg, TableShort, CostsShort, ChainsShort, AnswersShort, LegsFull, NoLegs, Loop}
 
 abbrev pub bay_code : BayFault → Code
 bay_code (Register f) = register_code f
@@ -16,6 +16,7 @@ bay_code NoLeg = code Bay 14 0
 bay_code TableShort = code Bay 15 0
 bay_code CostsShort = code Bay 15 1
 bay_code ChainsShort = code Bay 15 2
+bay_code AnswersShort = code Bay 15 3
 bay_code LegsFull = code Bay 24 0
 bay_code NoLegs = code Bay 25 0
 bay_code Loop = code Bay 26 0

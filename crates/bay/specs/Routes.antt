@@ -2,7 +2,7 @@
 -- of least cost. `row k` is row k of the chain sheet, `paid k` what entry k of the cost sheet means.
 use Rattle.std.specs.Prelude.{◌≡◌, ℕ, ◌<◌, cond, ◌⊎◌, List, [], ◌∷◌, ◌++◌, length, get_or, Option, ◌==◌, slice_index, slice_index_or}
 use Rattle.costs.specs.Algebra.{Algebra}
-use Rattle.walks.specs.Sheet.{row_of}
+use Rattle.bay.specs.Sheet.{row_of}
 use Rattle.walks.specs.Walk.{path, Walk, cost, Chain, Loop}
 use Rattle.bay.specs.declared.legs.Ends.{Ends}
 use Rattle.bay.specs.declared.legs.Note.{Note}
@@ -22,13 +22,13 @@ note_of row = cond (slice_index row 0 == 0) NoChain (ChainOf (slice_index row 0)
 
 module _ (A : Algebra) (card : ℕ → ℕ → Option A.Value) where
   -- no chain and the unit, where no walk leads from the leg's first format to its second
-  pub record Unreached (leg : Ends) (row : List ℕ) (paid : A.Value) : Type 0 where
+  pub record HasNoChain (leg : Ends) (row : List ℕ) (paid : A.Value) : Type 0 where
     pub row_is : row ≡ row_of []
     pub costs : paid ≡ A.unit
     pub no_walk : (ms : List ℕ) → Walk A card (path leg.from ms leg.to) → ⊥
 
   -- a chain from the leg's first format to its second, its cost, and no walk between them that undercuts it
-  pub record Reached (leg : Ends) (row : List ℕ) (paid : A.Value) : Type 0 where
+  pub record HasLeastChain (leg : Ends) (row : List ℕ) (paid : A.Value) : Type 0 where
     pub inner : List ℕ
     pub row_is : row ≡ row_of (path leg.from inner leg.to)
     pub chain : Chain A card (path leg.from inner leg.to)
@@ -36,13 +36,13 @@ module _ (A : Algebra) (card : ℕ → ℕ → Option A.Value) where
     pub least : (ms : List ℕ) → Walk A card (path leg.from ms leg.to) → A.Under (cost A card (path leg.from ms leg.to)) paid → ⊥
 
   -- the rows and costs of all legs; two chains that end in the same format agree from where they meet
-  pub record Routed (legs : List Ends) (row : ℕ → List ℕ) (paid : ℕ → A.Value) : Type 0 where
-    pub each : (k : ℕ) → k < length legs → Unreached (slice_index_or legs k no_ends) (row k) (paid k) ⊎ Reached (slice_index_or legs k no_ends) (row k) (paid k)
+  pub record LeastChains (legs : List Ends) (row : ℕ → List ℕ) (paid : ℕ → A.Value) : Type 0 where
+    pub each : (k : ℕ) → k < length legs → HasNoChain (slice_index_or legs k no_ends) (row k) (paid k) ⊎ HasLeastChain (slice_index_or legs k no_ends) (row k) (paid k)
     pub agree : (j k : ℕ) → j < length legs → k < length legs → (get_or legs j no_ends).to ≡ (get_or legs k no_ends).to →
         (fs gs : List ℕ) → row j ≡ row_of fs → row k ≡ row_of gs → Agree fs gs
 
   -- the row holds a loop that undercuts the unit
-  pub record Looped (row : List ℕ) : Type 0 where
+  pub record LoopIn (row : List ℕ) : Type 0 where
     pub start : ℕ
     pub inner : List ℕ
     pub row_is : row ≡ row_of (path start inner start)

@@ -1,186 +1,165 @@
--- The law over whole runs: what every call of a list is answered, by the plain bay as that call finds it.
-use Rattle.std.specs.Prelude.{◌≡◌, ℕ, suc, ◌*◌, ◌<◌, ◌≤◌, Bool, ◌⊎◌, List, [], ◌∷◌, ◌++◌, length, take, drop, Some, None, Ok, Err, vec_items, vec_len, vec_capacity, fold, Option, Result, Vec, slice_index_or}
-use Rattle.std.specs.declared.alloc.Global.{Global}
-use Rattle.costs.specs.Algebra.{Algebra}
-use Rattle.registers.specs.Fault.{after, first_cause}
-use Rattle.registers.specs.Meaning.{enter_causes, withdraw_causes, standing}
+-- The law over whole runs: what every call is answered, by the plain bay as that call finds it.
+use Rattle.std.specs.Prelude.{◌≡◌, ℕ, ◌+◌, ◌*◌, ◌<◌, Bool, true, false, ◌⊎◌, List, [], ◌∷◌, ◌++◌, map, length, take, drop, count_by, All, Some, None, Option, slice_index_or, nat_lt}
+use Rattle.std.specs.List.{flat_map}
+use Rattle.costs.specs.declared.Cost.{Ghosts as Kind}
+use Rattle.registers.specs.Fault.{code, first_cause}
+use Rattle.registers.specs.Meaning.{standing}
 use Rattle.registers.specs.declared.fault.Code.{Code}
-use Rattle.walks.specs.Sheet.{row_at}
+use Rattle.registers.specs.declared.fault.Layer.TheVariants.{Bay}
 use Rattle.walks.specs.Walk.{Gains}
-use Rattle.walks.specs.declared.cells.Cell.{Cell}
+use Rattle.bay.specs.Buffers.{Buffers, Wrote, buffers, in_front}
+use Rattle.bay.specs.Calls.{Made, Judged, Called, made, legs_step}
 use Rattle.bay.specs.Faults.{bay_code}
-use Rattle.bay.specs.Leg.{no_leg, noted, open_leg}
-use Rattle.bay.specs.Legs.{opened, struck}
-use Rattle.bay.specs.Plain.{Plain, book_causes, leg_causes, route_causes, row_bytes, step}
-use Rattle.bay.specs.Routes.{note_of}
-use Rattle.bay.specs.Routing.{Beyond, Desk}
-use Rattle.bay.specs.Routes as routes
+use Rattle.bay.specs.Limits.{most_legs}
+use Rattle.bay.specs.Plain.{Plain, step}
+use Rattle.bay.specs.Routes.{LoopIn}
+use Rattle.bay.specs.Routing.{LeastChainsIn, route_causes}
+use Rattle.bay.specs.Sheet.{row_at, row_bytes}
 use Rattle.bay.specs.declared.calls.Answer.{Answer}
-use Rattle.bay.specs.declared.calls.Answer.TheVariants.{Entered, Withdrawn, Booked, Struck, Shown, Routed, Looped, Refused}
+use Rattle.bay.specs.declared.calls.Answer.TheVariants.{Entered, Routed, Looped, Refused}
 use Rattle.bay.specs.declared.calls.Call.{Call}
-use Rattle.bay.specs.declared.calls.Call.TheVariants.{Enter, Withdraw, Book, Strike, Show, Route}
-use Rattle.bay.specs.declared.calls.Routes.{Routes}
+use Rattle.bay.specs.declared.calls.Call.TheVariants.{Route}
+use Rattle.bay.specs.declared.cells.Cell.{Cell}
 use Rattle.bay.specs.declared.fault.BayFault.{BayFault}
-use Rattle.bay.specs.declared.fault.BayFault.TheVariants.{Loop}
 use Rattle.bay.specs.declared.legs.Leg.{Leg}
 
--- how long the table and the sheets are that a route is given
-pub record Room : Type 0 where
-  pub cells : ℕ
-  pub entries : ℕ
-  pub bytes : ℕ
-
--- nothing is written yet, and there is room for all that a route may write
-abbrev pub Reserved : {C : Type 0} → Routes C → Type 0
-Reserved r = (vec_items r.costs ≡ []) × (vec_items r.chains ≡ []) × (vec_len r.costs ≡ 0) × (vec_len r.chains ≡ 0) × (32 ≤ vec_capacity r.costs) × (2112 ≤ vec_capacity r.chains)
-
--- a sheet that begins with the new list, and goes on as it was
-abbrev pub over : {X : Type 0} → List X → List X → List X
-over new old = new ++ drop (length new) old
-
--- each leg with the note that goes with its row, from leg k on
-abbrev pub with_notes : ℕ → (ℕ → List ℕ) → List Leg → List Leg
-with_notes k row [] = []
-with_notes k row (leg ∷ legs) = noted (note_of (row k)) leg ∷ with_notes (suc k) row legs
-
 module _ {C : Type 0} where
-  -- the code of the fault that a call was refused for, if it was
-  abbrev pub told : Answer C → Option Code
-  told Entered = None
-  told Withdrawn = None
-  told (Booked k) = None
-  told Struck = None
-  told (Shown leg) = None
-  told (Routed r) = None
-  told (Looped row) = Some (bay_code Loop)
-  told (Refused f) = Some (bay_code f)
+  abbrev pub call_of : Made C → Call C
+  call_of m = m.call
 
-  -- what a route's answer makes of the notes: those of its rows, or all open after a loop
-  abbrev pub route_notes : Answer C → List Leg → List Leg
-  route_notes Entered legs = legs
-  route_notes Withdrawn legs = legs
-  route_notes (Booked k) legs = legs
-  route_notes Struck legs = legs
-  route_notes (Shown leg) legs = legs
-  route_notes (Routed r) legs = with_notes 0 (row_at (vec_items r.chains)) legs
-  route_notes (Looped row) legs = opened legs
-  route_notes (Refused f) legs = legs
+  abbrev pub answer_of : Made C → Answer
+  answer_of m = m.answer
 
-  -- what a call and its answer make of the legs with their notes
-  abbrev pub legs_step : List Leg → Call C → Answer C → List Leg
-  legs_step legs (Enter a b x) answer = after (told answer) legs (opened legs)
-  legs_step legs (Withdraw a b) answer = after (told answer) legs (opened legs)
-  legs_step legs (Book a b) answer = after (told answer) legs (legs ++ open_leg a b ∷ [])
-  legs_step legs (Strike k) answer = after (told answer) legs (struck k legs)
-  legs_step legs (Show k) answer = legs
-  legs_step legs Route answer = route_notes answer legs
+  -- what is read where no call was made
+  abbrev pub no_call : Made C
+  no_call = made Route Entered (buffers [] [] []) (buffers [] [] [])
 
-  -- what an answer leaves in the chain sheet and in the cost sheet: only a route's rows and costs, or the row of a loop
-  abbrev pub chains_step : List ℕ → Answer C → List ℕ
-  chains_step sheet Entered = sheet
-  chains_step sheet Withdrawn = sheet
-  chains_step sheet (Booked k) = sheet
-  chains_step sheet Struck = sheet
-  chains_step sheet (Shown leg) = sheet
-  chains_step sheet (Routed r) = over (vec_items r.chains) sheet
-  chains_step sheet (Looped row) = over (vec_items row) sheet
-  chains_step sheet (Refused f) = sheet
+  -- the legs with their notes after these calls
+  abbrev pub legs_after : List Leg → List (Made C) → List Leg
+  legs_after legs [] = legs
+  legs_after legs (m ∷ ms) = legs_after (legs_step legs m) ms
 
-  abbrev pub costs_step : List C → Answer C → List C
-  costs_step sheet Entered = sheet
-  costs_step sheet Withdrawn = sheet
-  costs_step sheet (Booked k) = sheet
-  costs_step sheet Struck = sheet
-  costs_step sheet (Shown leg) = sheet
-  costs_step sheet (Routed r) = over (vec_items r.costs) sheet
-  costs_step sheet (Looped row) = sheet
-  costs_step sheet (Refused f) = sheet
+module _ {C : Type 0} {K : Kind C} where
+  -- What a route is answered and leaves in its sheets, where no cause holds before a card is looked at: a loop that undercuts
+  -- the unit, or else, where no closed walk does, for each leg its chain of least cost.
+  abbrev pub RouteRight : Plain K → Made C → Type 0
+  RouteRight p m =
+      ((m.answer ≡ Looped) × LoopIn K.algebra (standing p.register) (row_at m.after.chains 0)) ⊎
+      ((m.answer ≡ Routed (length p.legs)) × (Gains K.algebra (standing p.register) → ⊥) × LeastChainsIn p m.after)
 
-  -- the call is granted with this answer where no cause holds, and else refused for the first that does
-  abbrev pub Judged : Answer C → Answer C → List (Bool × Code) → Type 0
-  Judged answer grant causes = ((answer ≡ grant) × (first_cause causes ≡ None)) ⊎ ((f : BayFault) × (answer ≡ Refused f) × (first_cause causes ≡ Some (bay_code f)))
+  abbrev pub RightFor : Call C → Plain K → List Leg → Made C → Type 0
+  RightFor Route p legs m =
+      ((f : BayFault) × (m.answer ≡ Refused f) × (first_cause (route_causes p m.before) ≡ Some (bay_code f))) ⊎
+      ((first_cause (route_causes p m.before) ≡ None) × RouteRight p m)
+  RightFor call p legs m = Judged p legs call m.answer
 
-module _ (A : Algebra) {C : Type 0} (value : C → A.Value) where
-  -- What route is answered, where no cause holds before a card is looked at: a loop that undercuts the unit, or else, where no
-  -- closed walk does, for each leg its chain of least cost.
-  abbrev pub RouteRight : Plain A.Value → Answer C → Type 0
-  RouteRight p answer =
-      ((row : Vec ℕ Global) × (answer ≡ Looped row) × routes.Looped A (standing p.register) (vec_items row)) ⊎
-      ((r : Routes C) × (answer ≡ Routed r) × (length (vec_items r.costs) ≡ length p.legs) × (length (vec_items r.chains) ≡ row_bytes * length p.legs) × (Gains A (standing p.register) → ⊥) ×
-      ((d : C) → routes.Routed A (standing p.register) p.legs (row_at (vec_items r.chains)) (λ k. value (slice_index_or (vec_items r.costs) k d))))
-
-  -- The answer to a call is that of the plain bay p, whose legs have these notes.
-  abbrev pub Right : Room → Plain A.Value → List Leg → Call C → Answer C → Type 0
-  Right room p legs (Enter a b x) answer = Judged answer Entered (enter_causes p.register a b (A.admits (value x)))
-  Right room p legs (Withdraw a b) answer = Judged answer Withdrawn (withdraw_causes p.register a b)
-  Right room p legs (Book a b) answer = Judged answer (Booked (length p.legs)) (book_causes p a b)
-  Right room p legs (Strike k) answer = Judged answer Struck (leg_causes p k)
-  Right room p legs (Show k) answer = Judged answer (Shown (slice_index_or legs k no_leg)) (leg_causes p k)
-  Right room p legs Route answer =
-      let causes : List (Bool × Code) = route_causes p room.cells room.entries room.bytes in
-      ((f : BayFault) × (answer ≡ Refused f) × (first_cause causes ≡ Some (bay_code f))) ⊎ ((first_cause causes ≡ None) × RouteRight p answer)
+  -- the answer to a call is that of the plain bay p, whose legs have these notes
+  abbrev pub Right : Plain K → List Leg → Made C → Type 0
+  Right p legs m = RightFor m.call p legs m
 
   -- the plain bay after these calls
-  abbrev pub plain_after : Plain A.Value → List (Call C) → Plain A.Value
+  abbrev pub plain_after : Plain K → List (Call C) → Plain K
   plain_after p [] = p
-  plain_after p (call ∷ calls) = plain_after (step A value p call) calls
+  plain_after p (call ∷ calls) = plain_after (step p call) calls
 
--- the legs after these calls, answered so
-abbrev pub legs_after : {C : Type 0} → List Leg → List (Call C) → List (Answer C) → List Leg
-legs_after legs [] answers = legs
-legs_after legs (call ∷ calls) [] = legs
-legs_after legs (call ∷ calls) (answer ∷ answers) = legs_after (legs_step legs call answer) calls answers
+  -- The law: at every place, the answer is the plain bay's, as the calls before that place leave it. So each route finds a loop
+  -- exactly where a closed walk undercuts the unit, and else least chains that agree.
+  abbrev pub Law : Plain K → List Leg → List (Made C) → Type 0
+  Law p legs ms = (i : ℕ) → i < length ms →
+      Right (plain_after p (take i (map call_of ms))) (legs_after legs (take i ms)) (slice_index_or ms i no_call)
 
--- The law over a run: at every place of the list, the answer is the plain bay's, as the calls before that place leave it; so
--- each route in it finds a loop exactly where a closed walk undercuts the unit, and else least chains that agree.
-pub record RunLaw (A : Algebra) {C : Type 0} (value : C → A.Value) (room : Room) (p : Plain A.Value) (legs : List Leg) (calls : List (Call C)) (answers : List (Answer C)) : Type 0 where
-  pub each_answered : length answers ≡ length calls
-  pub right : (i : ℕ) → i < length calls → Right A value room (plain_after A value p (take i calls)) (legs_after legs (take i calls) (take i answers)) (slice_index_or calls i Route) (slice_index_or answers i Entered)
+  -- the calls were made one after the other, each as its contract says, on a bay that began as p with these legs
+  abbrev pub OneAfterOther : Plain K → List Leg → List (Made C) → Type 0
+  OneAfterOther p legs [] = Unit {0}
+  OneAfterOther p legs (m ∷ ms) = (p' : Plain K) × (legs' : List Leg) × Called p p' legs legs' m × OneAfterOther p' legs' ms
 
-module _ (A : Algebra) {C : Type 0} (value : C → A.Value) where
-  abbrev pub room_for : Desk C → Room
-  room_for d = record { cells = length d.table; entries = length d.costs; bytes = length d.chains }
+-- Whatever calls are made, on whatever bay, and with whatever tables and sheets: the law holds of them.
+abbrev pub OneByOne : {C : Type 0} (K : Kind C) → Type 0
+OneByOne {C = C} K = (p : Plain K) (legs : List Leg) (ms : List (Made C)) → OneAfterOther p legs ms → Law p legs ms
 
-  -- One call with its answer: the answer is the plain bay's, and the plain bay, the legs with their notes, the table and the
-  -- sheets are then what the call and the answer make of them.
-  pub record CallDone (p p' : Plain A.Value) (before now : Desk C) (call : Call C) (answer : Answer C) : Type 0 where
-    pub right : Right A value (room_for before) p before.legs call answer
-    pub plain_is : p' ≡ step A value p call
-    pub legs : now.legs ≡ legs_step before.legs call answer
-    pub table : Beyond (p.register.size * p.register.size) before.table now.table
-    pub costs : now.costs ≡ costs_step before.costs answer
-    pub chains : now.chains ≡ chains_step before.chains answer
+-- a part has room for all the legs that there may be
+abbrev pub part_bytes : ℕ
+part_bytes = row_bytes * most_legs
 
-  -- What was done and answered, for a call on the cards and the legs alone, whatever the table and the sheets hold: the plain
-  -- bay and the legs were these before it and are those after it.
-  abbrev pub EditDone : Plain A.Value → Plain A.Value → List Leg → List Leg → Call C → Answer C → Type 0
-  EditDone p p' legs legs' call answer =
-      (table : List (Cell C)) (costs : List C) (chains : List ℕ) →
-      CallDone p p' (record { legs = legs; table = table; costs = costs; chains = chains }) (record { legs = legs'; table = table; costs = costs; chains = chains }) call answer
+-- the same from some place on
+abbrev pub put_at : {X : Type 0} → ℕ → List X → List X → List X
+put_at start new old = take start old ++ (new ++ drop (start + length new) old)
 
-  -- such a call is granted or refused, and a route is left to do
-  abbrev pub EditAnswer : Plain A.Value → Plain A.Value → List Leg → List Leg → Call C → Result (Option (Answer C)) BayFault → Type 0
-  EditAnswer p p' legs legs' call (Ok (Some answer)) = EditDone p p' legs legs' call answer
-  EditAnswer p p' legs legs' call (Ok None) = (call ≡ Route) × (p' ≡ p) × (legs' ≡ legs)
-  EditAnswer p p' legs legs' call (Err fault) = EditDone p p' legs legs' call (Refused fault)
+-- a list of calls, each of which writes in sheets of its own: parts of those that are lent, one after the other
+module _ {C : Type 0} where
+  -- the call works in a part of the sheets
+  abbrev pub takes_part : Call C → Bool
+  takes_part Route = true
+  takes_part call = false
 
-  -- a route was not made, for want of memory; that memory was wanting is not said, as a clause knows nothing of it
-  pub record Unmade (p p' : Plain A.Value) (before now : Desk C) (call : Call C) : Type 0 where
-    pub route : call ≡ Route
-    pub plain_is : p' ≡ p
-    pub desk : now ≡ before
+  -- how many parts a list of calls takes
+  abbrev pub parts : List (Call C) → ℕ
+  parts calls = count_by takes_part calls
 
-  -- A list of calls with its answers: the law over the run, and what the run leaves.
-  pub record RunDone (p p' : Plain A.Value) (before now : Desk C) (calls : List (Call C)) (answers : List (Answer C)) : Type 0 where
-    pub law : RunLaw A value (room_for before) p before.legs calls answers
-    pub plain_is : p' ≡ plain_after A value p calls
-    pub legs : now.legs ≡ legs_after before.legs calls answers
-    pub table : Beyond (p.register.size * p.register.size) before.table now.table
-    pub costs : now.costs ≡ fold costs_step before.costs answers
-    pub chains : now.chains ≡ fold chains_step before.chains answers
+  -- why a list of calls is refused before its first call, in order: too few cost entries, bytes of the chain sheet, or answers
+  abbrev pub run_causes : List (Call C) → ℕ → ℕ → ℕ → List (Bool × Code)
+  run_causes calls entries bytes answers =
+      (nat_lt entries (most_legs * parts calls), code Bay 15 1) ∷ (nat_lt bytes (part_bytes * parts calls), code Bay 15 2) ∷
+      (nat_lt answers (length calls), code Bay 15 3) ∷ []
 
-  -- A list of calls that was left for want of memory, before its first call or at a route: those before that are made.
-  pub record RunStopped (p p' : Plain A.Value) (before now : Desk C) (calls : List (Call C)) (answers : List (Answer C)) : Type 0 where
-    pub made : RunDone p p' before now (take (length answers) calls) answers
-    pub left : length answers < length calls
-    pub wants : (length answers ≡ 0) ⊎ (slice_index_or calls (length answers) Route ≡ Route)
+  -- the part of a sheet that a call works in, if it does
+  abbrev pub own : {X : Type 0} → Call C → List X → List X
+  own Route sheet = sheet
+  own call sheet = []
+
+  -- the parts of a list of calls one after the other, each as its call found it, or left it
+  abbrev pub costs_found : List (Made C) → List C
+  costs_found ms = flat_map (λ m. own m.call m.before.costs) ms
+
+  abbrev pub costs_left : List (Made C) → List C
+  costs_left ms = flat_map (λ m. own m.call m.after.costs) ms
+
+  abbrev pub chains_found : List (Made C) → List ℕ
+  chains_found ms = flat_map (λ m. own m.call m.before.chains) ms
+
+  abbrev pub chains_left : List (Made C) → List ℕ
+  chains_left ms = flat_map (λ m. own m.call m.after.chains) ms
+
+  -- the table goes from call to call
+  abbrev pub PassesOn : List (Cell C) → List (Made C) → List (Cell C) → Type 0
+  PassesOn table [] table' = table' ≡ table
+  PassesOn table (m ∷ ms) table' = (m.before.table ≡ table) × PassesOn m.after.table ms table'
+
+  -- what an answer leaves: only the n × n cells, and a route's costs and rows or the row of a loop, are written
+  abbrev pub LeftBy : Answer → ℕ → Buffers C → Buffers C → Type 0
+  LeftBy (Routed legs) n before after = Wrote (n * n) legs (row_bytes * legs) before after
+  LeftBy Looped n before after = Wrote (n * n) 0 row_bytes before after
+  LeftBy answer n before after = after ≡ before
+
+  abbrev pub Leaves : ℕ → Made C → Type 0
+  Leaves n m = LeftBy m.answer n m.before m.after
+
+-- A list of calls was made: the law holds of them, and this is what they leave.
+pub record Ran {C : Type 0} {K : Kind C} (p p' : Plain K) (legs legs' : List Leg) (calls : List (Call C)) (answers answers' : List Answer) (before after : Buffers C) : Type 0 where
+  pub made : List (Made C)
+  pub calls_are : map call_of made ≡ calls
+  pub law : Law p legs made
+  pub plain_is : p' ≡ plain_after p calls
+  pub legs_are : legs' ≡ legs_after legs made
+  pub answers_are : answers' ≡ in_front (map answer_of made) answers
+  pub leaves : All (Leaves p.register.size) made
+  pub table : PassesOn before.table made after.table
+  pub costs_were : before.costs ≡ in_front (costs_found made) before.costs
+  pub costs_are : after.costs ≡ in_front (costs_left made) before.costs
+  pub chains_were : before.chains ≡ in_front (chains_found made) before.chains
+  pub chains_are : after.chains ≡ in_front (chains_left made) before.chains
+
+-- One call of a list: it is made in its part of the sheets, and what lies beside that part is as it was.
+pub record InPart {C : Type 0} {K : Kind C} (p p' : Plain K) (legs legs' : List Leg) (part : ℕ) (call : Call C) (answer : Answer) (before after : Buffers C) : Type 0 where
+  pub made : Made C
+  pub call_is : made.call ≡ call
+  pub answer_is : made.answer ≡ answer
+  pub called : Called p p' legs legs' made
+  pub table_was : made.before.table ≡ before.table
+  pub table_is : after.table ≡ made.after.table
+  pub costs_were : own call made.before.costs ≡ own call (take most_legs (drop (most_legs * part) before.costs))
+  pub costs_are : after.costs ≡ put_at (most_legs * part) (own call made.after.costs) before.costs
+  pub costs_long : length (own call made.after.costs) ≡ length (own call made.before.costs)
+  pub chains_were : own call made.before.chains ≡ own call (take part_bytes (drop (part_bytes * part) before.chains))
+  pub chains_are : after.chains ≡ put_at (part_bytes * part) (own call made.after.chains) before.chains
+  pub chains_long : length (own call made.after.chains) ≡ length (own call made.before.chains)

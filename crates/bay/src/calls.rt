@@ -1,14 +1,17 @@
 // The calls of a bay as values, and their answers.
+ghost use Rattle.std.specs.Prelude.{◌≡◌, MatchResult};
+ghost use Rattle.bay.specs.declared.calls.Answer.TheVariants.{Refused};
+
 use crate::fault::BayFault;
 use crate::legs::{Leg, MOST_LEGS};
+use crate::rows::ROW;
 use registers::Format;
-use walks::ROW;
 
 // So many bytes have the rows of all the legs that a bay may have.
 pub const CHAIN_BYTES: usize = ROW * MOST_LEGS;
 
 // A call with its arguments, as data: a host hands in a list of them and may keep it, so it is no closure. `Route` works in the
-// table and the sheets that are handed in with the list of calls.
+// table and the sheets that are handed in with it.
 #[derive(Clone, Copy, Debug, PartialEq, Eq)]
 pub enum Call<C> {
     Enter { from: Format, to: Format, cost: C },
@@ -19,29 +22,53 @@ pub enum Call<C> {
     Route,
 }
 
-// What a granted route wrote: a cost and a row for each leg, in two lists as they stand in the sheets.
-#[derive(Drop)]
-pub struct Routes<C> {
-    pub costs: Vec<C>,
-    pub chains: Vec<u8>,
-}
-
-// What came of a call.
-#[derive(Drop)]
-pub enum Answer<C> {
+// What came of a call. What a route found stands in the sheets that it was lent: the costs and rows of so many legs, or a loop in
+// row 0.
+#[derive(Clone, Copy, Debug, PartialEq, Eq)]
+pub enum Answer {
     Entered,
     Withdrawn,
     Booked(usize),
     Struck,
     Shown(Leg),
-    Routed(Routes<C>),
-    // A closed walk undercuts the unit: the row holds such a loop.
-    Looped(Vec<u8>),
+    Routed(usize),
+    // A closed walk undercuts the unit.
+    Looped,
     Refused(BayFault),
 }
 
-// Memory ran out: the answers of the calls that were made. The calls after them were not.
-#[derive(Drop)]
-pub struct Stopped<C> {
-    pub answers: Vec<Answer<C>>,
+impl<C> Call<C> {
+    ghost use Rattle.bay.specs.Runs.{takes_part};
+
+    // Whether the call works in the table and the sheets.
+    pub fn takes_part(&self) -> bool
+        ensures { result ≡ takes_part self.now }
+    {
+        matches!(self, Call::Route)
+    }
+}
+
+impl Answer {
+    ghost use Rattle.bay.specs.Calls.{of_route};
+
+    // The answer to a call that, where it is granted, is answered so.
+    pub(crate) fn of_done(done: Result<(), BayFault>, granted: Answer) -> Answer
+        ensures { MatchResult done (λ _. result ≡ granted) (λ fault. result ≡ Refused fault) }
+    {
+        match done {
+            Ok(()) => granted,
+            Err(fault) => Answer::Refused(fault),
+        }
+    }
+
+    // The answer that tells what a route answered.
+    pub(crate) fn of_route(routed: Result<usize, BayFault>) -> Answer
+        ensures { result ≡ of_route routed }
+    {
+        match routed {
+            Ok(legs) => Answer::Routed(legs),
+            Err(BayFault::Loop) => Answer::Looped,
+            Err(fault) => Answer::Refused(fault),
+        }
+    }
 }

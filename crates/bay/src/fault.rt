@@ -17,6 +17,7 @@ pub enum BayFault {
     TableShort,
     CostsShort,
     ChainsShort,
+    AnswersShort,
     LegsFull,
     NoLegs,
     // A closed walk undercuts the unit.
@@ -37,6 +38,7 @@ impl BayFault {
             BayFault::TableShort => (15, 0),
             BayFault::CostsShort => (15, 1),
             BayFault::ChainsShort => (15, 2),
+            BayFault::AnswersShort => (15, 3),
             BayFault::LegsFull => (24, 0),
             BayFault::NoLegs => (25, 0),
             BayFault::Loop => (26, 0),

@@ -1,11 +1,16 @@
 // What a bay judges before it acts.
 ghost use Rattle.std.specs.Prelude.{◌≡◌, ◌≤◌};
 ghost use Rattle.registers.specs.Fault.{first_cause};
+ghost use Rattle.registers.specs.Meaning.{most_formats};
 ghost use Rattle.bay.specs.Faults.{refused};
+ghost use Rattle.bay.specs.Limits.{most_legs};
 ghost use Rattle.bay.specs.Plain.{room_causes};
+ghost use Rattle.bay.specs.Runs.{run_causes};
 
+use crate::calls::{CHAIN_BYTES, Call};
 use crate::fault::BayFault;
-use walks::ROW;
+use crate::legs::MOST_LEGS;
+use crate::rows::ROW;
 
 // That there are legs, and that the table and the sheets are long enough for them, or the first cause why not. Of numbers alone,
 // so that it knows no register.
@@ -16,8 +21,8 @@ pub(crate) fn judge_room(
     entries: usize,
     bytes: usize,
 ) -> Result<(), BayFault>
-    requires few_legs { legs ≤ 32 }
-    requires few_formats { size ≤ 64 }
+    requires few_legs { legs ≤ most_legs }
+    requires few_formats { size ≤ most_formats }
     ensures { refused result ≡ first_cause (room_causes legs size cells entries bytes) }
 {
     if legs == 0 {
@@ -28,6 +33,28 @@ pub(crate) fn judge_room(
         Err(BayFault::CostsShort)
     } else if bytes < ROW * legs {
         Err(BayFault::ChainsShort)
+    } else {
+        Ok(())
+    }
+}
+
+// That the sheets have a part for each call that works in one, and that there is a place for each answer, or the first cause why
+// not.
+pub(crate) fn judge_run<C>(
+    calls: &[Call<C>],
+    answers: usize,
+    entries: usize,
+    bytes: usize,
+) -> Result<(), BayFault>
+    ensures { refused result ≡ first_cause (run_causes calls.now entries bytes answers) }
+{
+    let parts = calls.iter().filter(|call| call.takes_part()).count();
+    if entries / MOST_LEGS < parts {
+        Err(BayFault::CostsShort)
+    } else if bytes / CHAIN_BYTES < parts {
+        Err(BayFault::ChainsShort)
+    } else if answers < calls.len() {
+        Err(BayFault::AnswersShort)
     } else {
         Ok(())
     }

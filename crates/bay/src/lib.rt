@@ -1,21 +1,26 @@
-// The bay: converter cards of a register, and the legs that are to be routed over them. Functions that ask something of their
-// caller by a `requires`, as `push`, `remove` and `set_note` of the legs, serve the crate alone; what is public may always be
-// called.
+// The bay: converter cards of a register, and the legs that are to be routed over them. What is public may always be called;
+// functions that ask something of their caller by a `requires` serve the crate alone.
 #![tactic(auto)]
 
 mod bays;
 mod calls;
+mod cells;
+mod elimination;
 mod fault;
 mod judge;
 mod law;
 mod legs;
-mod legs_calls;
-mod routing_call;
-mod running;
+mod negative_cycle;
+mod rows;
+mod substitution;
+mod survey;
+mod tree;
 mod writing;
 
 pub use bays::Bay;
-pub use calls::{Answer, CHAIN_BYTES, Call, Routes, Stopped};
+pub use calls::{Answer, CHAIN_BYTES, Call};
+pub use cells::Cell;
 pub use fault::BayFault;
 pub use law::{from_outputs, one_by_one};
 pub use legs::{Ends, Leg, MOST_LEGS, Note};
+pub use rows::ROW;

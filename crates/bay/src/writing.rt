@@ -1,26 +1,30 @@
-// The rows, costs and notes of all legs, from a table that is brought to the least costs to one goal after the other.
-ghost use Rattle.std.specs.Prelude.{◌≡◌, ℕ, ◌*◌, ◌<◌, ◌≤◌, true, false, map, length, get_or, ◌≢◌, slice_index_or};
-ghost use Rattle.walks.specs.Cells.{Kept, Laid, cards_in, least_in};
-ghost use Rattle.walks.specs.Eliminated.{FirstDone};
-ghost use Rattle.walks.specs.Sheet.{row_at};
-ghost use Rattle.walks.specs.Tracing.{Clear, Traced};
+// What a route writes: the rows, costs and notes of all legs, from a table that is brought to the least costs to one goal after the
+// other.
+ghost use Rattle.std.specs.Prelude.{◌≡◌, ℕ, ◌*◌, ◌<◌, ◌≤◌, true, false, map, length, ◌≢◌, slice_index_or};
+ghost use Rattle.registers.specs.Meaning.{most_formats};
 ghost use Rattle.walks.specs.Walk.{Gains, Least};
-ghost use Rattle.bay.specs.Leg.{no_leg, noted};
+ghost use Rattle.bay.specs.Buffers.{Beyond};
+ghost use Rattle.bay.specs.Cells.{Kept, Laid, cards_in, least_in};
+ghost use Rattle.bay.specs.Eliminated.{FirstDone};
+ghost use Rattle.bay.specs.Leg.{noted};
+ghost use Rattle.bay.specs.LegSlots.{Awaits, Blank, EndsIn, GoalServed, LegDone, Spares, Written, leg_slot};
 ghost use Rattle.bay.specs.Legs.{booked};
-ghost use Rattle.bay.specs.Places.{Awaits, Blank, LegDone, Served, Spares, Written, place};
-ghost use Rattle.bay.specs.Plain.{ends, row_bytes};
-ghost use Rattle.bay.specs.Routes.{Routed, note_of};
-ghost use Rattle.bay.specs.Routing.{Beyond};
+ghost use Rattle.bay.specs.Plain.{ends};
+ghost use Rattle.bay.specs.Routes.{LeastChains, note_of};
+ghost use Rattle.bay.specs.Sheet.{row_at, row_bytes};
+ghost use Rattle.bay.specs.Tracing.{Clear, Traced};
 
+use crate::cells::{Cell, cell_at};
 use crate::legs::{Leg, Legs, Note};
+use crate::rows::{write_chain, write_no_chain};
+use crate::substitution::solve_to;
+use crate::tree::{Ticks, trace};
 use costs::Cost;
 use registers::MOST_FORMATS;
-use walks::{Cell, cell_at, solve_to, trace, write_chain, write_no_chain};
 
 // What a route writes: leg k with its note, entry k of the cost sheet and row k of the chain sheet. The table and its size n
 // stand beside it as two arguments, as in the stages and the trace.
-#[derive(Drop)]
-pub(crate) struct Page<'a, C> {
+pub(crate) struct RouteWriter<'a, C> {
     pub(crate) legs: &'a mut Legs,
     pub(crate) costs: &'a mut [C],
     pub(crate) chains: &'a mut [u8],
@@ -29,14 +33,30 @@ pub(crate) struct Page<'a, C> {
     ghost rows: { row_bytes * length (booked legs.now) ≤ length chains.now },
 }
 
-impl<C: Cost> Page<'_, C> {
-    ghost use Rattle.bay.specs.Lent.{SameLent, page_of};
+// When it ends, the legs and the sheets are given back as the writer had them.
+impl<C> Drop for RouteWriter<'_, C> {
+    fn drop(self)
+        ensures legs { self.exit.0.now ≡ self.entry.legs.now }
+        ensures costs { self.exit.1.0.now ≡ self.entry.costs.now }
+        ensures chains { self.exit.1.1.0.now ≡ self.entry.chains.now }
+    {
+        let RouteWriter {
+            legs: _,
+            costs: _,
+            chains: _,
+        } = self;
+    }
+}
+
+impl<C: Cost> RouteWriter<'_, C> {
+    ghost use Rattle.bay.specs.RouteWriters.{SameMemory, leg_of, number_of, slots_of};
 
     // Every leg without a chain, at the cost that changes nothing.
     fn clear(&mut self)
-        ensures lent { SameLent self.old self.new }
-        ensures written { Written (page_of self.old) (page_of self.new) }
-        ensures blank { (k : ℕ) → k < length (booked self.new.legs.now) → Blank C.Cost.algebra C.Cost.value (place (page_of self.new) k) }
+        ensures lent { SameMemory self.old self.new }
+        ensures written { Written (slots_of self.old) (slots_of self.new) }
+        ensures blank { (k : ℕ) → k < number_of self.new →
+            Blank C.Cost (leg_slot (slots_of self.new) k) }
     {
         // A number k, as it names a leg, an entry and a row, and all three are written.
         for k in 0..self.legs.len() {
@@ -48,14 +68,17 @@ impl<C: Cost> Page<'_, C> {
 
     // Whether some leg ends in the goal.
     fn leads_to(&self, goal: usize) -> bool
-        ensures { result ≡ false → (k : ℕ) → k < length (booked self.now.legs.now) → (get_or (booked self.now.legs.now) k no_leg).to ≢ goal }
+        ensures { result ≡ false →
+            (k : ℕ) → k < number_of self.now → (leg_of self.now k).to ≢ goal }
     {
         self.legs.as_slice().iter().any(|leg| leg.to == goal)
     }
 
     // The formats where a leg to the goal begins.
     fn starts_to(&self, goal: usize) -> [bool; MOST_FORMATS]
-        ensures { (k : ℕ) → k < length (booked self.now.legs.now) → (get_or (booked self.now.legs.now) k no_leg).to ≡ goal → (get_or (booked self.now.legs.now) k no_leg).from < 64 → slice_index_or result (get_or (booked self.now.legs.now) k no_leg).from false ≡ true }
+        ensures { (k : ℕ) → k < number_of self.now → EndsIn (slots_of self.now) k goal →
+            (leg_of self.now k).from < most_formats →
+            slice_index_or result (leg_of self.now k).from false ≡ true }
     {
         let mut starts = [false; MOST_FORMATS];
         for leg in self.legs.as_slice() {
@@ -75,14 +98,17 @@ impl<C: Cost> Page<'_, C> {
         table: &[Cell<C>],
         next: &[usize; MOST_FORMATS],
     )
-        requires laid { Laid C.Cost.algebra C.Cost.value n table.now }
-        requires few { n ≤ 64 }
-        requires least { leg.from < n → Least C.Cost.algebra (cards_in C.Cost.algebra C.Cost.value n table.now) leg.from leg.to (least_in C.Cost.algebra C.Cost.value n table.now leg.from leg.from) }
-        requires leg { (k < length (booked self.old.legs.now)) × (leg ≡ slice_index_or (booked self.old.legs.now) k no_leg) × (leg.to < n) }
-        requires traced { leg.from < n → Traced C.Cost.algebra C.Cost.value n table.now leg.to next.now leg.from }
-        requires blank { Blank C.Cost.algebra C.Cost.value (place (page_of self.old) k) }
-        ensures lent { SameLent self.old self.new }
-        ensures done { LegDone C.Cost.algebra C.Cost.value (cards_in C.Cost.algebra C.Cost.value n table.now) next.now k (page_of self.old) (page_of self.new) }
+        requires laid { Laid C.Cost n table.now }
+        requires few { n ≤ most_formats }
+        requires least { let v = leg.from in
+            let least = least_in C.Cost n table.now v v in
+            v < n → Least C.algebra (cards_in C.Cost n table.now) v leg.to least }
+        requires leg { (k < number_of self.old) × (leg ≡ leg_of self.old k) × (leg.to < n) }
+        requires traced { leg.from < n → Traced C.Cost n table.now leg.to next.now leg.from }
+        requires blank { Blank C.Cost (leg_slot (slots_of self.old) k) }
+        ensures lent { SameMemory self.old self.new }
+        ensures done { let cards = cards_in C.Cost n table.now in
+            LegDone C.Cost cards next.now k (slots_of self.old) (slots_of self.new) }
     {
         if leg.from >= n {
             return;
@@ -97,16 +123,20 @@ impl<C: Cost> Page<'_, C> {
 
     // All legs that end in the goal.
     fn write_goal(&mut self, goal: usize, n: usize, table: &[Cell<C>], next: &[usize; MOST_FORMATS])
-        requires laid { Laid C.Cost.algebra C.Cost.value n table.now }
-        requires few { n ≤ 64 }
+        requires laid { Laid C.Cost n table.now }
+        requires few { n ≤ most_formats }
         requires inside { goal < n }
-        requires least { (v : ℕ) → v < n → (v ≢ goal) → Least C.Cost.algebra (cards_in C.Cost.algebra C.Cost.value n table.now) v goal (least_in C.Cost.algebra C.Cost.value n table.now v v) }
-        requires traced { (k : ℕ) → k < length (booked self.old.legs.now) → (get_or (booked self.old.legs.now) k no_leg).to ≡ goal → (get_or (booked self.old.legs.now) k no_leg).from < n → ((get_or (booked self.old.legs.now) k no_leg).from ≢ goal) → Traced C.Cost.algebra C.Cost.value n table.now goal next.now (get_or (booked self.old.legs.now) k no_leg).from }
-        requires awaits { Awaits C.Cost.algebra C.Cost.value goal (page_of self.old) }
-        ensures lent { SameLent self.old self.new }
-        ensures written { Written (page_of self.old) (page_of self.new) }
-        ensures spares { Spares goal (page_of self.old) (page_of self.new) }
-        ensures served { Served C.Cost.algebra C.Cost.value (cards_in C.Cost.algebra C.Cost.value n table.now) next.now goal (page_of self.new) }
+        requires least { (v : ℕ) → v < n → (v ≢ goal) →
+            Least C.algebra (cards_in C.Cost n table.now) v goal (least_in C.Cost n table.now v v) }
+        requires traced { (k : ℕ) → k < number_of self.old → EndsIn (slots_of self.old) k goal →
+            (leg_of self.old k).from < n → ((leg_of self.old k).from ≢ goal) →
+            Traced C.Cost n table.now goal next.now (leg_of self.old k).from }
+        requires awaits { Awaits C.Cost goal (slots_of self.old) }
+        ensures lent { SameMemory self.old self.new }
+        ensures written { Written (slots_of self.old) (slots_of self.new) }
+        ensures spares { Spares goal (slots_of self.old) (slots_of self.new) }
+        ensures served { let cards = cards_in C.Cost n table.now in
+            GoalServed C.Cost cards next.now goal (slots_of self.new) }
     {
         // By number, since the legs are written while they are gone through.
         for k in 0..self.legs.len() {
@@ -117,27 +147,32 @@ impl<C: Cost> Page<'_, C> {
         }
     }
 
-    // The rows, costs and notes of all legs. The table's diagonal and the ticks are for its own use; the ticks are clear again at
-    // the end.
+    // The rows, costs and notes of all legs. The table's diagonal and the array of ticks are for its own use; the array is clear
+    // again at the end.
     pub(crate) fn write_routes(
         &mut self,
         n: usize,
         table: &mut [Cell<C>],
-        ticks: &mut [bool; MOST_FORMATS],
+        sheet: &mut [bool; MOST_FORMATS],
     )
-        requires laid { Laid C.Cost.algebra C.Cost.value n table.old }
-        requires few { n ≤ 64 }
-        requires calm { Gains C.Cost.algebra (cards_in C.Cost.algebra C.Cost.value n table.old) → ⊥ }
-        requires low { FirstDone C.Cost.algebra C.Cost.value n (cards_in C.Cost.algebra C.Cost.value n table.old) table.old }
-        requires clear { Clear ticks.old }
-        ensures lent { SameLent self.old self.new }
-        ensures routed { (d : C) → Routed C.Cost.algebra (cards_in C.Cost.algebra C.Cost.value n table.old) (map ends (booked self.old.legs.now)) (row_at self.new.chains.now) (λ k. C.Cost.value (slice_index_or self.new.costs.now k d)) }
-        ensures chains { Beyond (66 * length (booked self.old.legs.now)) self.old.chains.now self.new.chains.now }
-        ensures costs { Beyond (length (booked self.old.legs.now)) self.old.costs.now self.new.costs.now }
-        ensures legs { length (booked self.new.legs.now) ≡ length (booked self.old.legs.now) }
-        ensures notes { (k : ℕ) → k < length (booked self.old.legs.now) → slice_index_or (booked self.new.legs.now) k no_leg ≡ noted (note_of (row_at self.new.chains.now k)) (slice_index_or (booked self.old.legs.now) k no_leg) }
+        requires laid { Laid C.Cost n table.old }
+        requires few { n ≤ most_formats }
+        requires calm { Gains C.algebra (cards_in C.Cost n table.old) → ⊥ }
+        requires low { FirstDone C.Cost n (cards_in C.Cost n table.old) table.old }
+        requires clear { Clear sheet.old }
+        ensures lent { SameMemory self.old self.new }
+        ensures routed { (d : C) →
+            LeastChains C.algebra (cards_in C.Cost n table.old) (map ends (booked self.old.legs.now))
+            (row_at self.new.chains.now)
+            (λ k. C.value (slice_index_or self.new.costs.now k d)) }
+        ensures chains { let bytes = row_bytes * number_of self.old in
+            Beyond bytes self.old.chains.now self.new.chains.now }
+        ensures costs { Beyond (number_of self.old) self.old.costs.now self.new.costs.now }
+        ensures legs { number_of self.new ≡ number_of self.old }
+        ensures notes { (k : ℕ) → k < number_of self.old →
+            leg_of self.new k ≡ noted (note_of (row_at self.new.chains.now k)) (leg_of self.old k) }
         ensures kept { Kept n table.old table.new }
-        ensures clear { Clear ticks.new }
+        ensures clear { Clear sheet.new }
     {
         self.clear();
         let mut next = [0; MOST_FORMATS];
@@ -145,7 +180,8 @@ impl<C: Cost> Page<'_, C> {
             if self.leads_to(goal) {
                 solve_to(table, n, goal);
                 let wanted = self.starts_to(goal);
-                trace(table, n, goal, &wanted, ticks, &mut next);
+                let mut ticks = Ticks::over(sheet);
+                trace(table, n, goal, &wanted, &mut ticks, &mut next);
                 self.write_goal(goal, n, table, &next);
             }
         }

@@ -39,3 +39,7 @@ pub record Lawful (A : Algebra) : Type 0 where
   pub admitted_within : (a : A.Value) → A.admits a ≡ true → A.Within 1 a
   pub within_more : (m k : ℕ) (a : A.Value) → m ≤ k → k ≤ reach → A.Within m a → A.Within k a
   pub within_join : (m k : ℕ) (a b : A.Value) → m + k ≤ reach → A.Within m a → A.Within k b → A.Within (m + k) (A.join a b)
+
+-- x is what the two combine to, where they lie within `reach` cards together; beyond that it is free
+abbrev pub IsJoin : (A : Algebra) → A.Value → A.Value → A.Value → Type 0
+IsJoin A a b x = (m k : ℕ) → m + k ≤ reach → A.Within m a → A.Within k b → x ≡ A.join a b

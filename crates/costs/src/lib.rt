@@ -5,8 +5,8 @@
 mod delay;
 mod depth;
 
-ghost use Rattle.std.specs.Prelude.{◌≡◌, ℕ, ◌+◌, ◌≤◌, true, false};
-ghost use Rattle.costs.specs.Algebra.{Algebra, Lawful, reach};
+ghost use Rattle.std.specs.Prelude.{◌≡◌, true, false};
+ghost use Rattle.costs.specs.Algebra.{Algebra, Lawful, IsJoin};
 
 pub use delay::Delay;
 pub use depth::Depth;
@@ -23,7 +23,7 @@ pub trait Cost: Copy {
 
     // The combination: exact while the two lie within `reach` cards together, and any cost beyond that.
     fn join(self, other: Self) -> Self
-        ensures { (m k : ℕ) → m + k ≤ reach → algebra.Within m (value self) → algebra.Within k (value other) → value result ≡ algebra.join (value self) (value other) };
+        ensures { IsJoin algebra (value self) (value other) (value result) };
 
     // Whether `self` is strictly better than `other`. No `Ord`: which of two costs is better is the kind's own affair, as the larger
     // depth is.

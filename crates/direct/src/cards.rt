@@ -1,16 +1,16 @@
 // A route over the costs of all pairs.
 ghost use Rattle.bay.specs.Bays.{plain};
+ghost use Rattle.bay.specs.Buffers.{buffers};
 ghost use Rattle.direct.specs.Cards.{AllBooked, CardsAnswer};
 
-use bay::{Bay, BayFault, Ends};
+use bay::{Bay, BayFault, Cell, Ends};
 use costs::Cost;
 use lent::Grid;
 use registers::Register;
-use walks::Cell;
 
 // Books legs one after the other, up to the first that is refused.
 fn book_all<R: Register>(bay: &mut Bay<R>, legs: &[Ends]) -> Result<(), BayFault>
-    ensures { AllBooked (plain R.Cost.Cost.algebra R.Cost.Cost.value R.Register.holds bay.old) (plain R.Cost.Cost.algebra R.Cost.Cost.value R.Register.holds bay.new) legs.now result }
+    ensures { AllBooked (plain bay.old) (plain bay.new) legs.now result }
 {
     for leg in legs {
         bay.book(leg.from, leg.to)?;
@@ -28,7 +28,8 @@ pub fn route_cards<C: Cost>(
     costs: &mut [C],
     chains: &mut [u8],
 ) -> Result<usize, BayFault>
-    ensures { CardsAnswer C.Cost.algebra C.Cost.value n cards.now legs.now (record { table = table.old; costs = costs.old; chains = chains.old }) (record { table = table.new; costs = costs.new; chains = chains.new }) result }
+    ensures { CardsAnswer C.Cost n cards.now legs.now (buffers table.old costs.old chains.old)
+        (buffers table.new costs.new chains.new) result }
 {
     Grid::check(n, cards)?;
     let mut bay = Bay::new(Grid::new(n, cards));

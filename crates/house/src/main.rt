@@ -3,10 +3,9 @@
 #![tactic(auto)]
 
 use anyhow::{Context, anyhow};
-use bay::{Answer, Bay, CHAIN_BYTES, Call, MOST_LEGS, Routes};
+use bay::{Answer, Bay, CHAIN_BYTES, Call, Cell, MOST_LEGS, ROW};
 use costs::Delay;
-use registers::{Bar, Code, HouseTable};
-use walks::{Cell, ROW};
+use registers::{Bars, Code, HouseTable, Over};
 
 // What the input asks for: the formats that are barred, and the calls to make.
 #[derive(Drop)]
@@ -72,13 +71,8 @@ fn print_formats(rt: &HostRuntime, formats: &[u8]) -> anyhow::Result<()> {
     Ok(())
 }
 
-fn print_routes(rt: &HostRuntime, routes: &Routes<Delay>) -> anyhow::Result<()> {
-    for (k, (cost, row)) in routes
-        .costs
-        .iter()
-        .zip(routes.chains.chunks(ROW))
-        .enumerate()
-    {
+fn print_routes(rt: &HostRuntime, costs: &[Delay], chains: &[u8]) -> anyhow::Result<()> {
+    for (k, (cost, row)) in costs.iter().zip(chains.chunks(ROW)).enumerate() {
         let formats = formats(row);
         if formats.is_empty() {
             println!(rt; "leg {k}: none")?;
@@ -90,12 +84,18 @@ fn print_routes(rt: &HostRuntime, routes: &Routes<Delay>) -> anyhow::Result<()> 
     Ok(())
 }
 
-fn print_answer(rt: &HostRuntime, answer: &Answer<Delay>) -> anyhow::Result<()> {
+// An answer, with what a route has left in its sheets.
+fn print_answer(
+    rt: &HostRuntime,
+    answer: Answer,
+    costs: &[Delay],
+    chains: &[u8],
+) -> anyhow::Result<()> {
     match answer {
-        Answer::Routed(routes) => print_routes(rt, routes)?,
-        Answer::Looped(row) => {
+        Answer::Routed(legs) => print_routes(rt, costs.get(..legs).unwrap_or(costs), chains)?,
+        Answer::Looped => {
             print!(rt; "a loop gains time:")?;
-            print_formats(rt, formats(row))?;
+            print_formats(rt, formats(chains))?;
         }
         Answer::Refused(fault) => {
             let Code { number, part, .. } = fault.code();
@@ -106,18 +106,19 @@ fn print_answer(rt: &HostRuntime, answer: &Answer<Delay>) -> anyhow::Result<()> 
     Ok(())
 }
 
-// Makes the calls on a new bay over the house table under these bars, and prints what came of them.
+// Makes the calls, of which the last is the one route, on a new bay over the house table under these bars, and prints what came
+// of them.
 fn serve(rt: &HostRuntime, bars: u64, calls: &[Call<Delay>]) -> anyhow::Result<()> {
-    let mut bay = Bay::new(Bar::new(HouseTable, bars));
+    let mut bay = Bay::new(Over::new(HouseTable, Bars { bits: bars }));
     let mut table = [Cell::empty(); 64];
     let mut costs = [Delay { lines: 0 }; MOST_LEGS];
     let mut chains = [255; CHAIN_BYTES];
-    let answers = bay
-        .run(rt.alloc(), calls, &mut table, &mut costs, &mut chains)
-        .map_err(|_| anyhow!("there is no memory"))?;
+    let mut answers = vec![in rt.alloc(); Answer::Looped; calls.len()]?;
+    bay.run(calls, &mut answers, &mut table, &mut costs, &mut chains)
+        .map_err(|fault| anyhow!("the list of calls is refused: {}", fault.code()))?;
     answers
         .iter()
-        .try_for_each(|answer| print_answer(rt, answer))
+        .try_for_each(|answer| print_answer(rt, *answer, &costs, &chains))
 }
 
 // The bare table, and where formats are barred the same legs once more under the bars.

@@ -3,17 +3,15 @@
 #![tactic(auto)]
 
 ghost use Rattle.std.specs.Prelude.{◌≡◌};
-ghost use Rattle.costs.specs.Delay.{delay};
-ghost use Rattle.costs.specs.Depth.{depth, bits};
+ghost use Rattle.costs.specs.Kinds.{delays, depths};
 ghost use Rattle.bay.specs.Faults.{refused};
-ghost use Rattle.hurzelma.specs.Host.{fault_number, told, RouteTold, TextTold};
+ghost use Rattle.hurzelma.specs.Host.{fault_number, status, RouteTold, TextTold};
 
-use bay::{BayFault, Ends};
+use bay::{BayFault, Cell, Ends};
 use costs::{Cost, Delay, Depth};
 use direct::route_cards;
 use listing::answer_on_stack;
 use registers::{Code, Layer, MOST_FORMATS};
-use walks::Cell;
 
 // As many cells as a route over the most formats wants.
 const CELLS: usize = MOST_FORMATS * MOST_FORMATS;
@@ -43,8 +41,8 @@ fn fault_number(code: Code) -> u32
 }
 
 // What a host is told of a route: 0 where it is granted.
-fn told(answer: Result<usize, BayFault>) -> u32
-    ensures { result ≡ told (refused answer) }
+fn status(answer: Result<usize, BayFault>) -> u32
+    ensures { result ≡ status (refused answer) }
 {
     match answer {
         Ok(_) => 0,
@@ -61,14 +59,15 @@ pub extern "C" fn hurzelma_route_delay(
     costs: &mut [Delay],
     chains: &mut [u8],
 ) -> u32
-    ensures { RouteTold delay (λ d. d.lines) n cards.now legs.now costs.old costs.new chains.old chains.new result }
+    ensures { RouteTold delays n cards.now legs.now costs.old costs.new
+        chains.old chains.new result }
 {
     if n <= FEW_FORMATS {
         let mut table = [Cell::empty(); FEW_CELLS];
-        told(route_cards(n, cards, legs, &mut table, costs, chains))
+        status(route_cards(n, cards, legs, &mut table, costs, chains))
     } else {
         let mut table = [Cell::empty(); CELLS];
-        told(route_cards(n, cards, legs, &mut table, costs, chains))
+        status(route_cards(n, cards, legs, &mut table, costs, chains))
     }
 }
 
@@ -81,14 +80,15 @@ pub extern "C" fn hurzelma_route_depth(
     costs: &mut [Depth],
     chains: &mut [u8],
 ) -> u32
-    ensures { RouteTold depth (λ d. bits d.bits) n cards.now legs.now costs.old costs.new chains.old chains.new result }
+    ensures { RouteTold depths n cards.now legs.now costs.old costs.new
+        chains.old chains.new result }
 {
     if n <= FEW_FORMATS {
         let mut table = [Cell::empty(); FEW_CELLS];
-        told(route_cards(n, cards, legs, &mut table, costs, chains))
+        status(route_cards(n, cards, legs, &mut table, costs, chains))
     } else {
         let mut table = [Cell::empty(); CELLS];
-        told(route_cards(n, cards, legs, &mut table, costs, chains))
+        status(route_cards(n, cards, legs, &mut table, costs, chains))
     }
 }
 

@@ -8,6 +8,8 @@ use Rattle.std.proofs.lemmas.List.Sums.{passes_at_first}
 use Rattle.std.proofs.lemmas.Option.{MatchOption-at_none}
 use Rattle.std.proofs.lemmas.Bool.{and_parts, and_from, both_ways, false≢true, ltb-true, ltb-false, eqb-true, eq-eqb}
 use Rattle.lent.specs.declared.list.Entry.{Entry}
+use Rattle.costs.specs.declared.Cost.{Ghosts as Kind}
+use Rattle.costs.specs.Kind.{admits}
 use Rattle.registers.specs.Fault.{first_cause, code}
 use Rattle.registers.specs.declared.fault.Layer.TheVariants.{Register}
 use Rattle.registers.specs.Meaning.{meant, possible, put, standing, entered, withdrawn, enter_causes}
@@ -311,7 +313,7 @@ module _ {C : Type 0} (admits : C → Bool) (n : ℕ) where
     list_free = rw (← fits)
 
 -- calls, from what they find
-module _ {C V : Type 0} (v : C → V) (admits : C → Bool) (n : ℕ) (es : List (Option (Entry C))) (a b k : ℕ) (size : k ≡ nearest_size n) (judged : possible k a b ≡ true) (fits : true ≡ list_fits n (length es)) where
+module _ {C : Type 0} (K : Kind C) (n : ℕ) (es : List (Option (Entry C))) (a b k : ℕ) (size : k ≡ nearest_size n) (judged : possible k a b ≡ true) (fits : true ≡ list_fits n (length es)) where
   ends : possible (nearest_size n) a b ≡ true
   ends = sym (ap (λ j. possible j a b) size) ∙ judged
 
@@ -320,68 +322,68 @@ module _ {C V : Type 0} (v : C → V) (admits : C → Bool) (n : ℕ) (es : List
       let fitting = nearest_fitting n (and_parts (size_fits n) (entries_fit (length es)) (sym fits)).0 in
       possible_parts n a b (sym (ap (λ j. possible j a b) fitting) ∙ ends)
 
-  unsealed : (listed admits n es).sealed a b ≡ false
+  unsealed : (listed (admits K) n es).sealed a b ≡ false
   unsealed = rw (← fits)
 
   -- the entries after a call that changes the cards of a and b alone
-  module _ (next : List (Option (Entry C))) (long : length next ≡ length es) (o : Option C) (is : (c d : ℕ) → first_cost admits n next c d ≡ put (first_cost admits n es) a b o c d) where
+  module _ (next : List (Option (Entry C))) (long : length next ≡ length es) (o : Option C) (is : (c d : ℕ) → first_cost (admits K) n next c d ≡ put (first_cost (admits K) n es) a b o c d) where
     still : true ≡ list_fits n (length next)
     still = fits ∙ ap (list_fits n) (sym long)
 
-    pub next_cards : (c d : ℕ) → list_card admits n next c d ≡ put (list_card admits n es) a b o c d
-    next_cards c d = list_card_is admits n next still c d ∙ is c d ∙ ap (cond (eqb a c && eqb b d) o) (sym (list_card_is admits n es fits c d))
+    pub next_cards : (c d : ℕ) → list_card (admits K) n next c d ≡ put (list_card (admits K) n es) a b o c d
+    next_cards c d = list_card_is (admits K) n next still c d ∙ is c d ∙ ap (cond (eqb a c && eqb b d) o) (sym (list_card_is (admits K) n es fits c d))
 
-    pub next_sealed : (c d : ℕ) → (listed admits n next).sealed c d ≡ (listed admits n es).sealed c d
+    pub next_sealed : (c d : ℕ) → (listed (admits K) n next).sealed c d ≡ (listed (admits K) n es).sealed c d
     next_sealed c d = ap (λ j. not (list_fits n j)) long
 
-    counted : how_many n (list_card admits n next) + bit (list_card admits n es a b) ≡ how_many n (list_card admits n es) + bit o
+    counted : how_many n (list_card (admits K) n next) + bit (list_card (admits K) n es a b) ≡ how_many n (list_card (admits K) n es) + bit o
     counted =
-        let same : how_many n (list_card admits n next) ≡ how_many n (put (list_card admits n es) a b o) = ap (how_many n) (fun_ext (λ c. fun_ext (λ d. next_cards c d))) in
-        let changed = how_many_put n (list_card admits n es) a b o good.0 good.1 in
+        let same : how_many n (list_card (admits K) n next) ≡ how_many n (put (list_card (admits K) n es) a b o) = ap (how_many n) (fun_ext (λ c. fun_ext (λ d. next_cards c d))) in
+        let changed = how_many_put n (list_card (admits K) n es) a b o good.0 good.1 in
         omega arith
 
-    pub next_entered : bit o ≡ 1 → (listed admits n next).free ≡ cond (is_some (list_card admits n es a b)) (listed admits n es).free ((listed admits n es).free - 1)
-    next_entered one = by_test (is_some (list_card admits n es a b)) refl
+    pub next_entered : bit o ≡ 1 → (listed (admits K) n next).free ≡ cond (is_some (list_card (admits K) n es a b)) (listed (admits K) n es).free ((listed (admits K) n es).free - 1)
+    next_entered one = by_test (is_some (list_card (admits K) n es a b)) refl
       where
-        by_test : (t : Bool) → is_some (list_card admits n es a b) ≡ t → (listed admits n next).free ≡ cond t (listed admits n es).free ((listed admits n es).free - 1)
-        by_test true e = let had : bit (list_card admits n es a b) ≡ 1 = rw e in omega (arith, counted, list_free admits n es fits, list_free admits n next still)
-        by_test false e = let had : bit (list_card admits n es a b) ≡ 0 = rw e in omega (arith, counted, list_free admits n es fits, list_free admits n next still)
+        by_test : (t : Bool) → is_some (list_card (admits K) n es a b) ≡ t → (listed (admits K) n next).free ≡ cond t (listed (admits K) n es).free ((listed (admits K) n es).free - 1)
+        by_test true e = let had : bit (list_card (admits K) n es a b) ≡ 1 = rw e in omega (arith, counted, list_free (admits K) n es fits, list_free (admits K) n next still)
+        by_test false e = let had : bit (list_card (admits K) n es a b) ≡ 0 = rw e in omega (arith, counted, list_free (admits K) n es fits, list_free (admits K) n next still)
 
-    pub next_withdrawn : bit o ≡ 0 → is_some (list_card admits n es a b) ≡ true → (listed admits n next).free ≡ (listed admits n es).free + 1
+    pub next_withdrawn : bit o ≡ 0 → is_some (list_card (admits K) n es a b) ≡ true → (listed (admits K) n next).free ≡ (listed (admits K) n es).free + 1
     next_withdrawn none e =
-        let had : bit (list_card admits n es a b) ≡ 1 = rw e in
-        omega (arith, counted, list_free admits n es fits, list_free admits n next still, list_count admits n es fits, counts_bound admits n es)
+        let had : bit (list_card (admits K) n es a b) ≡ 1 = rw e in
+        omega (arith, counted, list_free (admits K) n es fits, list_free (admits K) n next still, list_count (admits K) n es fits, counts_bound (admits K) n es)
 
-  module _ (cost : C) (admitted : admits cost ≡ true) where
-    pub list_full_answer : Full admits n es a b → Some (code Register 23 0) ≡ first_cause (enter_causes (meant v (listed admits n es)) a b (admits cost))
+  module _ (cost : C) (admitted : admits K cost ≡ true) where
+    pub list_full_answer : Full (admits K) n es a b → Some (code Register 23 0) ≡ first_cause (enter_causes (meant K (listed (admits K) n es)) a b (admits K cost))
     list_full_answer f =
-        rw admitted (enter_full v (listed admits n es) (listed admits n es) a b ends unsealed (ap is_some (list_card_is admits n es fits a b ∙ f.new)) (omega (arith, list_free admits n es fits, list_count admits n es fits, f.used)))
+        rw admitted (enter_full K (listed (admits K) n es) (listed (admits K) n es) a b ends unsealed (ap is_some (list_card_is (admits K) n es fits a b ∙ f.new)) (omega (arith, list_free (admits K) n es fits, list_count (admits K) n es fits, f.used)))
 
-    module _ (i : ℕ) (w : Writable admits n es a b i) where
-      list_enter_answer : None ≡ first_cause (enter_causes (meant v (listed admits n es)) a b (admits cost))
+    module _ (i : ℕ) (w : Writable (admits K) n es a b i) where
+      list_enter_answer : None ≡ first_cause (enter_causes (meant K (listed (admits K) n es)) a b (admits K cost))
       list_enter_answer =
-          rw admitted (enter_granted v (listed admits n es) (listed admits n es) a b ends unsealed (λ new none. omega (arith, list_free admits n es fits, list_count admits n es fits, w.room (ap is_some (sym (list_card_is admits n es fits a b)) ∙ new))))
+          rw admitted (enter_granted K (listed (admits K) n es) (listed (admits K) n es) a b ends unsealed (λ new none. omega (arith, list_free (admits K) n es fits, list_count (admits K) n es fits, w.room (ap is_some (sym (list_card_is (admits K) n es fits a b)) ∙ new))))
 
-      list_enter_after : meant v (listed admits n (set es i (Some (record { from = a; to = b; cost = cost })))) ≡ entered (meant v (listed admits n es)) a b (v cost)
+      list_enter_after : meant K (listed (admits K) n (set es i (Some (record { from = a; to = b; cost = cost })))) ≡ entered (meant K (listed (admits K) n es)) a b (K.value cost)
       list_enter_after =
           let next = set es i (Some (record { from = a; to = b; cost = cost })) in
           let long = length-set es i (Some (record { from = a; to = b; cost = cost })) in
-          let is = first_written admits n es a b i w cost (possible_ends n a b good.0 good.1 good.2) admitted in
-          enter_after v (listed admits n es) (listed admits n next) a b ends cost refl (next_cards next long (Some cost) is) (next_sealed next long (Some cost) is) (next_entered next long (Some cost) is refl)
+          let is = first_written (admits K) n es a b i w cost (possible_ends n a b good.0 good.1 good.2) admitted in
+          enter_after K (listed (admits K) n es) (listed (admits K) n next) a b ends cost refl (next_cards next long (Some cost) is) (next_sealed next long (Some cost) is) (next_entered next long (Some cost) is refl)
 
-      pub list_entered : (None ≡ first_cause (enter_causes (meant v (listed admits n es)) a b (admits cost))) × (meant v (listed admits n (set es i (Some (record { from = a; to = b; cost = cost })))) ≡ entered (meant v (listed admits n es)) a b (v cost))
+      pub list_entered : (None ≡ first_cause (enter_causes (meant K (listed (admits K) n es)) a b (admits K cost))) × (meant K (listed (admits K) n (set es i (Some (record { from = a; to = b; cost = cost })))) ≡ entered (meant K (listed (admits K) n es)) a b (K.value cost))
       list_entered = (list_enter_answer, list_enter_after)
 
-  module _ (r : Option C) (value : option_map v r ≡ standing (meant v (listed admits n es)) a b) (had : is_some r ≡ true) where
-    stood : is_some (list_card admits n es a b) ≡ true
-    stood = sym (stands v (listed admits n es) (listed admits n es) a b ends) ∙ sym (ap is_some value) ∙ is_some_mapped v r ∙ had
+  module _ (r : Option C) (value : option_map K.value r ≡ standing (meant K (listed (admits K) n es)) a b) (had : is_some r ≡ true) where
+    stood : is_some (list_card (admits K) n es a b) ≡ true
+    stood = sym (stands K (listed (admits K) n es) (listed (admits K) n es) a b ends) ∙ sym (ap is_some value) ∙ is_some_mapped K.value r ∙ had
 
-    pub list_withdraw_after : meant v (listed admits n (without admits n a b es)) ≡ withdrawn (meant v (listed admits n es)) a b
+    pub list_withdraw_after : meant K (listed (admits K) n (without (admits K) n a b es)) ≡ withdrawn (meant K (listed (admits K) n es)) a b
     list_withdraw_after =
-        let next = without admits n a b es in
-        let long = length-map es (λ e. cond (is_some (cost_for admits n e a b)) None e) in
-        let is = first_without admits n a b es in
-        withdraw_after v (listed admits n es) (listed admits n next) a b ends refl (next_cards next long None is) (next_sealed next long None is) (next_withdrawn next long None is refl stood)
+        let next = without (admits K) n a b es in
+        let long = length-map es (λ e. cond (is_some (cost_for (admits K) n e a b)) None e) in
+        let is = first_without (admits K) n a b es in
+        withdraw_after K (listed (admits K) n es) (listed (admits K) n next) a b ends refl (next_cards next long None is) (next_sealed next long None is) (next_withdrawn next long None is refl stood)
 
 -- a list in cleared memory
 pub list_begins : {C : Type 0} (admits : C → Bool) (n : ℕ) (es : List (Option (Entry C))) → listed admits n (list_cleared n es) ≡ begun n (list_fits n (length es)) (length es)

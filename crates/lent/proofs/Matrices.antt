@@ -5,15 +5,17 @@ use Rattle.std.specs.Option.{option_map}
 use Rattle.std.proofs.lemmas.Nat.{mul-add-lt, div-mul-add, mod-mul-add}
 use Rattle.std.proofs.lemmas.List.{length-set, length-take-le, length-append, length-drop, length-replicate, get_or-set_same, get_or-set_other, get_or_append_left, get_or-replicate}
 use Rattle.std.proofs.lemmas.Bool.{and_parts, and_from, both_ways, cond-true, eqb-true, leb-true, eq-eqb}
+use Rattle.costs.specs.declared.Cost.{Ghosts as Kind}
+use Rattle.costs.specs.Kind.{admits}
 use Rattle.registers.specs.Fault.{first_cause}
-use Rattle.registers.specs.Meaning.{meant, possible, put, standing, entered, withdrawn, enter_causes}
+use Rattle.registers.specs.Meaning.{meant, possible, put, standing, entered, withdrawn, enter_causes, most_formats}
 use Rattle.lent.specs.Lent.{size_fits, nearest_size, how_many, begun, readable}
 use Rattle.lent.specs.Matrix.{matrix_fits, matrix_card, matrix, matrix_cleared}
 use Rattle.registers.proofs.Meanings.{same_meaning, possible_parts, possible_ends, is_some_mapped, stands, enter_granted, enter_after, withdraw_after}
 use Rattle.lent.proofs.Totals.{bit, how_many_put, how_many_bound, how_many_none}
 
-pub fitting_size : (n : ℕ) → size_fits n ≡ true → (2 ≤ n) × (n ≤ 64)
-fitting_size n e = let h = and_parts (leb 2 n) (leb n 64) e in (leb-true 2 n h.0, leb-true n 64 h.1)
+pub fitting_size : (n : ℕ) → size_fits n ≡ true → (2 ≤ n) × (n ≤ most_formats)
+fitting_size n e = let h = and_parts (leb 2 n) (leb n most_formats) e in (leb-true 2 n h.0, leb-true n most_formats h.1)
 
 pub nearest_fitting : (n : ℕ) → size_fits n ≡ true → nearest_size n ≡ n
 nearest_fitting n e = let h = fitting_size n e in omega arith
@@ -29,7 +31,7 @@ pub place_column : (n a b c d : ℕ) → b < n → d < n → a * n + b ≡ c * n
 place_column n a b c d hb hd e = sym (mod-mul-add a n b hb) ∙ ap (λ p. p % n) e ∙ mod-mul-add c n d hd
 
 module _ {C : Type 0} (admits : C → Bool) (n : ℕ) (places : List (Option C)) (fits : matrix_fits n (length places) ≡ true) where
-  pub sizes : (2 ≤ n) × (n ≤ 64) × (n * n ≤ length places)
+  pub sizes : (2 ≤ n) × (n ≤ most_formats) × (n * n ≤ length places)
   sizes =
       let h = and_parts (size_fits n) (leb (n * n) (length places)) fits in
       let s = fitting_size n h.0 in
@@ -155,7 +157,7 @@ cleared_begins {C = C} admits n places =
             card_at admits n (matrix_cleared n places) (same ∙ e) a b p ∙ ap (λ l. readable admits (get_or l (a * n + b) None)) is ∙ ap (readable admits) (get_or_append_left (replicate (n * n) None) (drop (n * n) places) None (a * n + b) (rw length-replicate below) ∙ get_or-replicate (n * n) (a * n + b) None None below)
 
 -- granted calls, from what they find
-module _ {C V : Type 0} (v : C → V) (admits : C → Bool) (n : ℕ) (places : List (Option C)) (a b k : ℕ) (size : k ≡ nearest_size n) (judged : possible k a b ≡ true) (fits : true ≡ matrix_fits n (length places)) where
+module _ {C : Type 0} (K : Kind C) (n : ℕ) (places : List (Option C)) (a b k : ℕ) (size : k ≡ nearest_size n) (judged : possible k a b ≡ true) (fits : true ≡ matrix_fits n (length places)) where
   ends : possible (nearest_size n) a b ≡ true
   ends = sym (ap (λ j. possible j a b) size) ∙ judged
 
@@ -165,36 +167,36 @@ module _ {C V : Type 0} (v : C → V) (admits : C → Bool) (n : ℕ) (places : 
       possible_parts n a b (sym (ap (λ j. possible j a b) fitting) ∙ ends)
 
   pub pair_below : a * n + b < length places
-  pair_below = place_below n a b (length places) good.0 good.1 (sizes admits n places (sym fits)).2
+  pair_below = place_below n a b (length places) good.0 good.1 (sizes (admits K) n places (sym fits)).2
 
-  unsealed : (matrix admits n places).sealed a b ≡ false
+  unsealed : (matrix (admits K) n places).sealed a b ≡ false
   unsealed = rw (← fits)
 
-  module _ (cost : C) (admitted : admits cost ≡ true) where
-    reads : readable admits (Some cost) ≡ Some cost
+  module _ (cost : C) (admitted : admits K cost ≡ true) where
+    reads : readable (admits K) (Some cost) ≡ Some cost
     reads = rw admitted
 
-    matrix_enter_answer : None ≡ first_cause (enter_causes (meant v (matrix admits n places)) a b (admits cost))
+    matrix_enter_answer : None ≡ first_cause (enter_causes (meant K (matrix (admits K) n places)) a b (admits K cost))
     matrix_enter_answer =
-        rw admitted (enter_granted v (matrix admits n places) (matrix admits n places) a b ends unsealed (room admits n places (sym fits) a b good.0 good.1 good.2 (Some cost) (ap is_some reads)))
+        rw admitted (enter_granted K (matrix (admits K) n places) (matrix (admits K) n places) a b ends unsealed (room (admits K) n places (sym fits) a b good.0 good.1 good.2 (Some cost) (ap is_some reads)))
 
-    matrix_enter_after : meant v (matrix admits n (set places (a * n + b) (Some cost))) ≡ entered (meant v (matrix admits n places)) a b (v cost)
+    matrix_enter_after : meant K (matrix (admits K) n (set places (a * n + b) (Some cost))) ≡ entered (meant K (matrix (admits K) n places)) a b (K.value cost)
     matrix_enter_after =
-        enter_after v (matrix admits n places) (matrix admits n (set places (a * n + b) (Some cost))) a b ends cost refl
-        (λ c d. card_set admits n places (sym fits) a b good.0 good.1 good.2 (Some cost) c d ∙ ap (λ o. put (matrix_card admits n places) a b o c d) reads)
+        enter_after K (matrix (admits K) n places) (matrix (admits K) n (set places (a * n + b) (Some cost))) a b ends cost refl
+        (λ c d. card_set (admits K) n places (sym fits) a b good.0 good.1 good.2 (Some cost) c d ∙ ap (λ o. put (matrix_card (admits K) n places) a b o c d) reads)
         (λ c d. ap (λ k. not (matrix_fits n k)) (length-set places (a * n + b) (Some cost)))
-        (entered_free admits n places (sym fits) a b good.0 good.1 good.2 (Some cost) (ap is_some reads))
+        (entered_free (admits K) n places (sym fits) a b good.0 good.1 good.2 (Some cost) (ap is_some reads))
 
-    pub matrix_entered : (None ≡ first_cause (enter_causes (meant v (matrix admits n places)) a b (admits cost))) × (meant v (matrix admits n (set places (a * n + b) (Some cost))) ≡ entered (meant v (matrix admits n places)) a b (v cost))
+    pub matrix_entered : (None ≡ first_cause (enter_causes (meant K (matrix (admits K) n places)) a b (admits K cost))) × (meant K (matrix (admits K) n (set places (a * n + b) (Some cost))) ≡ entered (meant K (matrix (admits K) n places)) a b (K.value cost))
     matrix_entered = (matrix_enter_answer, matrix_enter_after)
 
-  module _ (r : Option C) (is : option_map v r ≡ standing (meant v (matrix admits n places)) a b) (had : is_some r ≡ true) where
-    stood : is_some (matrix_card admits n places a b) ≡ true
-    stood = sym (stands v (matrix admits n places) (matrix admits n places) a b ends) ∙ sym (ap is_some is) ∙ is_some_mapped v r ∙ had
+  module _ (r : Option C) (is : option_map K.value r ≡ standing (meant K (matrix (admits K) n places)) a b) (had : is_some r ≡ true) where
+    stood : is_some (matrix_card (admits K) n places a b) ≡ true
+    stood = sym (stands K (matrix (admits K) n places) (matrix (admits K) n places) a b ends) ∙ sym (ap is_some is) ∙ is_some_mapped K.value r ∙ had
 
-    pub matrix_withdraw_after : meant v (matrix admits n (set places (a * n + b) None)) ≡ withdrawn (meant v (matrix admits n places)) a b
+    pub matrix_withdraw_after : meant K (matrix (admits K) n (set places (a * n + b) None)) ≡ withdrawn (meant K (matrix (admits K) n places)) a b
     matrix_withdraw_after =
-        withdraw_after v (matrix admits n places) (matrix admits n (set places (a * n + b) None)) a b ends refl
-        (card_set admits n places (sym fits) a b good.0 good.1 good.2 None)
+        withdraw_after K (matrix (admits K) n places) (matrix (admits K) n (set places (a * n + b) None)) a b ends refl
+        (card_set (admits K) n places (sym fits) a b good.0 good.1 good.2 None)
         (λ c d. ap (λ k. not (matrix_fits n k)) (length-set places (a * n + b) None))
-        (withdrawn_free admits n places (sym fits) a b good.0 good.1 good.2 None refl stood)
+        (withdrawn_free (admits K) n places (sym fits) a b good.0 good.1 good.2 None refl stood)

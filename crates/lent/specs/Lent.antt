@@ -1,22 +1,17 @@
 -- What the registers in lent memory share: which sizes will do, how they begin, and how many cards stand.
 use Rattle.std.specs.Prelude.{ℕ, zero, suc, ◌+◌, min, max, Bool, cond, not, ◌&&◌, List, [], ◌∷◌, is_some, Some, None, Option, nat_le}
-use Rattle.costs.specs.Algebra.{Algebra}
 use Rattle.registers.specs.Fault.{code}
 use Rattle.registers.specs.declared.fault.Code.{Code}
 use Rattle.registers.specs.declared.fault.Layer.TheVariants.{Register}
-use Rattle.registers.specs.Meaning.{Meaning, most_formats}
-
--- whether a card may have a held cost, by what the cost means
-abbrev pub admitted_by : {C : Type 0} (A : Algebra) → (C → A.Value) → C → Bool
-admitted_by A value x = A.admits (value x)
+use Rattle.registers.specs.Meaning.{Meaning, least_formats, most_formats}
 
 -- a register can have n formats
 abbrev pub size_fits : ℕ → Bool
-size_fits n = nat_le 2 n && nat_le n most_formats
+size_fits n = nat_le least_formats n && nat_le n most_formats
 
 -- the size that comes nearest to n
 abbrev pub nearest_size : ℕ → ℕ
-nearest_size n = max 2 (min n most_formats)
+nearest_size n = max least_formats (min n most_formats)
 
 -- why the check before the making refuses, in order: the size, the memory
 abbrev pub memory_causes : ℕ → Bool → List (Bool × Code)

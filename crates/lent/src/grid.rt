@@ -2,7 +2,7 @@
 ghost use Rattle.std.specs.Prelude.{◌≡◌, ◌<◌, length};
 ghost use Rattle.registers.specs.Fault.{first_cause, refusal};
 ghost use Rattle.lent.specs.Grid.{grid, cost_read};
-ghost use Rattle.lent.specs.Lent.{admitted_by};
+ghost use Rattle.costs.specs.Kind.{admits};
 ghost use Rattle.lent.specs.Matrix.{matrix_causes};
 
 use crate::matrix::matrix_fits;
@@ -28,7 +28,8 @@ impl<'a, C: Cost> Grid<'a, C> {
 
     // A grid over these costs; made with what will not do, it has no card.
     pub fn new(n: usize, costs: &'a [C]) -> Grid<'a, C>
-        ensures holds { grid (admitted_by C.Cost.algebra C.Cost.value) result.n result.costs.now ≡ grid (admitted_by C.Cost.algebra C.Cost.value) n costs.now }
+        ensures holds { grid (admits C.Cost) result.n result.costs.now
+            ≡ grid (admits C.Cost) n costs.now }
     {
         Grid { n, costs }
     }
@@ -36,7 +37,7 @@ impl<'a, C: Cost> Grid<'a, C> {
     // The cost at a place, where a card may have it.
     fn cost_at(&self, place: usize) -> Option<C>
         requires { place < length self.now.costs.now }
-        ensures { result ≡ cost_read (admitted_by C.Cost.algebra C.Cost.value) self.now.costs.now place }
+        ensures { result ≡ cost_read (admits C.Cost) self.now.costs.now place }
     {
         Some(self.costs[place]).filter(|cost| cost.admitted())
     }
@@ -45,7 +46,7 @@ impl<'a, C: Cost> Grid<'a, C> {
 impl<'a, C: Cost> Register for Grid<'a, C> {
     type Cost = C;
 
-    ghost holds = { λ g. grid (admitted_by C.Cost.algebra C.Cost.value) g.n g.costs.now };
+    ghost holds = { λ g. grid (admits C.Cost) g.n g.costs.now };
 
     fn size(&self) -> usize {
         nearest_size(self.n)

@@ -2,7 +2,8 @@
 ghost use Rattle.std.specs.Prelude.{◌≡◌, ℕ, ◌<◌, ◌≤◌, true, length, is_some, position, IfSome, Some, None, MatchOption, slice_set};
 ghost use Rattle.registers.specs.Fault.{first_cause, refusal, after};
 ghost use Rattle.registers.specs.Meaning.{possible, entered, withdrawn, enter_causes, withdraw_causes};
-ghost use Rattle.lent.specs.Lent.{admitted_by, begun, how_many};
+ghost use Rattle.costs.specs.Kind.{admits};
+ghost use Rattle.lent.specs.Lent.{begun, how_many};
 ghost use Rattle.lent.specs.List.{entries_fit, list_fits, list_causes, live, cost_for, first_cost, without, listed, list_means, list_cleared, Free, Writable, Full};
 
 use crate::memory::{judge_memory, nearest_size, size_fits};
@@ -25,10 +26,18 @@ pub struct Entry<C> {
 
 // A register of `n` formats that takes one of `entries` for each card, in any order and searched from the front: a map would
 // ask for memory of its own. Where `n` or the memory will not do, it has no card and no free place, and every pair is sealed.
-#[derive(Drop)]
 pub struct List<'a, C> {
-    n: usize,
     entries: &'a mut [Option<Entry<C>>],
+    n: usize,
+}
+
+// When it ends, the memory is given back as the list had it.
+impl<C> Drop for List<'_, C> {
+    fn drop(self)
+        ensures { self.exit.0.now ≡ self.entry.entries.now }
+    {
+        let List { entries: _, n: _ } = self;
+    }
 }
 
 // Whether so many entries will do.
@@ -55,14 +64,14 @@ fn is_possible(n: usize, from: Format, to: Format) -> bool
 
 // The entry, where it can hold a card.
 fn live_entry<C: Cost>(n: usize, held: Option<Entry<C>>) -> Option<Entry<C>>
-    ensures { result ≡ live (admitted_by C.Cost.algebra C.Cost.value) n held }
+    ensures { result ≡ live (admits C.Cost) n held }
 {
     held.filter(|entry| is_possible(n, entry.from, entry.to) && entry.cost.admitted())
 }
 
 // The cost that an entry has for a pair.
 fn cost_for_pair<C: Cost>(n: usize, held: Option<Entry<C>>, from: Format, to: Format) -> Option<C>
-    ensures { result ≡ cost_for (admitted_by C.Cost.algebra C.Cost.value) n held from to }
+    ensures { result ≡ cost_for (admits C.Cost) n held from to }
 {
     // The pair is compared first: a search goes by many entries of other pairs.
     let entry = held.filter(|entry| entry.from == from && entry.to == to)?;
@@ -79,7 +88,7 @@ impl<'a, C: Cost> List<'a, C> {
 
     // A list with no card; made with what will not do, it refuses every change.
     pub fn new(n: usize, entries: &'a mut [Option<Entry<C>>]) -> List<'a, C>
-        ensures holds { listed (admitted_by C.Cost.algebra C.Cost.value) result.n result.entries.now ≡ begun n (list_fits n (length entries.old)) (length entries.old) }
+        ensures holds { listed (admits C.Cost) result.n result.entries.now ≡ begun n (list_fits n (length entries.old)) (length entries.old) }
         ensures memory { result.entries.now ≡ list_cleared n entries.old }
         ensures size { result.n ≡ n }
         ensures lent { result.entries.ghost_name ≡ entries.entry.ghost_name }
@@ -87,12 +96,12 @@ impl<'a, C: Cost> List<'a, C> {
         if list_fits(n, entries.len()) {
             entries.fill(None);
         }
-        List { n, entries }
+        List { entries, n }
     }
 
     // Where the first entry for a pair lies.
     fn entry_for(&self, from: Format, to: Format) -> Option<usize>
-        ensures { result ≡ position (λ e. is_some (cost_for (admitted_by C.Cost.algebra C.Cost.value) self.now.n e from to)) self.now.entries.now }
+        ensures { result ≡ position (λ e. is_some (cost_for (admits C.Cost) self.now.n e from to)) self.now.entries.now }
     {
         let n = self.n;
         self.entries
@@ -102,8 +111,8 @@ impl<'a, C: Cost> List<'a, C> {
 
     // The cost of the first entry for a pair.
     fn first_cost_for(&self, from: Format, to: Format) -> Option<C>
-        ensures value { result ≡ first_cost (admitted_by C.Cost.algebra C.Cost.value) self.now.n self.now.entries.now from to }
-        ensures admitted { IfSome result (λ x. C.Cost.algebra.admits (C.Cost.value x) ≡ true) }
+        ensures value { result ≡ first_cost (admits C.Cost) self.now.n self.now.entries.now from to }
+        ensures admitted { IfSome result (λ x. admits C.Cost x ≡ true) }
     {
         let i = self.entry_for(from, to)?;
         cost_for_pair(self.n, self.entries[i], from, to)
@@ -113,7 +122,7 @@ impl<'a, C: Cost> List<'a, C> {
     // one is free.
     fn free_entry(&self) -> Option<usize>
         requires { self.now.n ≤ 64 }
-        ensures { MatchOption result (how_many self.now.n (first_cost (admitted_by C.Cost.algebra C.Cost.value) self.now.n self.now.entries.now) ≡ length self.now.entries.now) (λ i. (i < length self.now.entries.now) × Free (admitted_by C.Cost.algebra C.Cost.value) self.now.n self.now.entries.now i) }
+        ensures { MatchOption result (how_many self.now.n (first_cost (admits C.Cost) self.now.n self.now.entries.now) ≡ length self.now.entries.now) (λ i. (i < length self.now.entries.now) × Free (admits C.Cost) self.now.n self.now.entries.now i) }
     {
         let mut seen = [false; MOST_PLACES];
         for (i, held) in self.entries.iter().enumerate() {
@@ -132,7 +141,7 @@ impl<'a, C: Cost> List<'a, C> {
     // Where a pair's card goes: into its entry, or else into a free one.
     fn entry_to_write(&self, from: Format, to: Format) -> Option<usize>
         requires { self.now.n ≤ 64 }
-        ensures { MatchOption result (Full (admitted_by C.Cost.algebra C.Cost.value) self.now.n self.now.entries.now from to) (λ i. Writable (admitted_by C.Cost.algebra C.Cost.value) self.now.n self.now.entries.now from to i) }
+        ensures { MatchOption result (Full (admits C.Cost) self.now.n self.now.entries.now from to) (λ i. Writable (admits C.Cost) self.now.n self.now.entries.now from to i) }
     {
         let found = self.entry_for(from, to);
         // Not `or_else`: of what its closure answers the proof would know nothing.
@@ -145,7 +154,7 @@ impl<'a, C: Cost> List<'a, C> {
 
     // Clears every entry for a pair.
     fn remove(&mut self, from: Format, to: Format)
-        ensures memory { self.new.entries.now ≡ without (admitted_by C.Cost.algebra C.Cost.value) self.old.n from to self.old.entries.now }
+        ensures memory { self.new.entries.now ≡ without (admits C.Cost) self.old.n from to self.old.entries.now }
         ensures size { self.new.n ≡ self.old.n }
         ensures lent { self.new.entries.ghost_name ≡ self.old.entries.ghost_name }
     {
@@ -161,7 +170,7 @@ impl<'a, C: Cost> List<'a, C> {
 impl<'a, C: Cost> Register for List<'a, C> {
     type Cost = C;
 
-    ghost holds = { λ l. listed (admitted_by C.Cost.algebra C.Cost.value) l.n l.entries.now };
+    ghost holds = { λ l. listed (admits C.Cost) l.n l.entries.now };
 
     fn size(&self) -> usize {
         nearest_size(self.n)
@@ -177,8 +186,8 @@ impl<'a, C: Cost> Register for List<'a, C> {
 
     // Also what happens to the lent memory: a granted call writes one entry, and nothing else is touched.
     fn enter(&mut self, from: Format, to: Format, cost: C) -> Result<(), RegisterFault>
-        ensures answer { refusal result ≡ first_cause (enter_causes (list_means C.Cost.algebra C.Cost.value self.old) from to (C.Cost.algebra.admits (C.Cost.value cost))) }
-        ensures after { list_means C.Cost.algebra C.Cost.value self.new ≡ after (refusal result) (list_means C.Cost.algebra C.Cost.value self.old) (entered (list_means C.Cost.algebra C.Cost.value self.old) from to (C.Cost.value cost)) }
+        ensures answer { refusal result ≡ first_cause (enter_causes (list_means C.Cost self.old) from to (admits C.Cost cost)) }
+        ensures after { list_means C.Cost self.new ≡ after (refusal result) (list_means C.Cost self.old) (entered (list_means C.Cost self.old) from to (C.value cost)) }
         ensures memory { (i : ℕ) × (self.new.entries.now ≡ after (refusal result) self.old.entries.now (slice_set self.old.entries.now i (Some (record { from = from; to = to; cost = cost })))) }
         ensures size { self.new.n ≡ self.old.n }
         ensures lent { self.new.entries.ghost_name ≡ self.old.entries.ghost_name }
@@ -198,9 +207,9 @@ impl<'a, C: Cost> Register for List<'a, C> {
     // Also what happens to the lent memory, in clauses since they are promises to its lender: a granted call clears the pair's
     // entries, and nothing else is touched.
     fn withdraw(&mut self, from: Format, to: Format) -> Result<(), RegisterFault>
-        ensures answer { refusal result ≡ first_cause (withdraw_causes (list_means C.Cost.algebra C.Cost.value self.old) from to) }
-        ensures after { list_means C.Cost.algebra C.Cost.value self.new ≡ after (refusal result) (list_means C.Cost.algebra C.Cost.value self.old) (withdrawn (list_means C.Cost.algebra C.Cost.value self.old) from to) }
-        ensures memory { self.new.entries.now ≡ after (refusal result) self.old.entries.now (without (admitted_by C.Cost.algebra C.Cost.value) self.old.n from to self.old.entries.now) }
+        ensures answer { refusal result ≡ first_cause (withdraw_causes (list_means C.Cost self.old) from to) }
+        ensures after { list_means C.Cost self.new ≡ after (refusal result) (list_means C.Cost self.old) (withdrawn (list_means C.Cost self.old) from to) }
+        ensures memory { self.new.entries.now ≡ after (refusal result) self.old.entries.now (without (admits C.Cost) self.old.n from to self.old.entries.now) }
         ensures size { self.new.n ≡ self.old.n }
         ensures lent { self.new.entries.ghost_name ≡ self.old.entries.ghost_name }
     {

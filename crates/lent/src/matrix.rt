@@ -2,7 +2,8 @@
 ghost use Rattle.std.specs.Prelude.{◌≡◌, ◌+◌, ◌-◌, ◌*◌, ◌<◌, ◌≤◌, true, ◌++◌, length, replicate, Some, None, slice_index_or, slice_set};
 ghost use Rattle.registers.specs.Fault.{first_cause, refusal, after};
 ghost use Rattle.registers.specs.Meaning.{entered, withdrawn, enter_causes, withdraw_causes};
-ghost use Rattle.lent.specs.Lent.{admitted_by, begun, readable};
+ghost use Rattle.costs.specs.Kind.{admits};
+ghost use Rattle.lent.specs.Lent.{begun, readable};
 ghost use Rattle.lent.specs.Matrix.{matrix_fits, matrix_causes, matrix, matrix_means, matrix_cleared};
 
 use crate::memory::{judge_memory, nearest_size, size_fits};
@@ -11,10 +12,18 @@ use registers::{Format, Register, RegisterFault, judge_ends, judge_entry};
 
 // A register of `n` formats in the first n × n places of `places`, row by row. Where `n` or the memory will not do,
 // it has no card and no free place, and every pair is sealed.
-#[derive(Drop)]
 pub struct Matrix<'a, C> {
-    n: usize,
     places: &'a mut [Option<C>],
+    n: usize,
+}
+
+// When it ends, the memory is given back as the matrix had it.
+impl<C> Drop for Matrix<'_, C> {
+    fn drop(self)
+        ensures { self.exit.0.now ≡ self.entry.places.now }
+    {
+        let Matrix { places: _, n: _ } = self;
+    }
 }
 
 // Whether so many places will do for n formats.
@@ -34,7 +43,8 @@ impl<'a, C: Cost> Matrix<'a, C> {
 
     // A matrix with no card; made with what will not do, it refuses every change.
     pub fn new(n: usize, places: &'a mut [Option<C>]) -> Matrix<'a, C>
-        ensures holds { matrix (admitted_by C.Cost.algebra C.Cost.value) result.n result.places.now ≡ begun n (matrix_fits n (length places.old)) (n * (n - 1)) }
+        ensures holds { matrix (admits C.Cost) result.n result.places.now
+            ≡ begun n (matrix_fits n (length places.old)) (n * (n - 1)) }
         ensures memory { result.places.now ≡ matrix_cleared n places.old }
         ensures size { result.n ≡ n }
         ensures lent { result.places.ghost_name ≡ places.entry.ghost_name }
@@ -42,13 +52,14 @@ impl<'a, C: Cost> Matrix<'a, C> {
         if matrix_fits(n, places.len()) {
             places[..n * n].fill(None);
         }
-        Matrix { n, places }
+        Matrix { places, n }
     }
 
     // The cost at a place, where a card may have it.
     fn cost_at(&self, place: usize) -> Option<C>
         requires { place < length self.now.places.now }
-        ensures { result ≡ readable (admitted_by C.Cost.algebra C.Cost.value) (slice_index_or self.now.places.now place None) }
+        ensures { result
+            ≡ readable (admits C.Cost) (slice_index_or self.now.places.now place None) }
     {
         self.places[place].filter(|cost| cost.admitted())
     }
@@ -57,7 +68,7 @@ impl<'a, C: Cost> Matrix<'a, C> {
 impl<'a, C: Cost> Register for Matrix<'a, C> {
     type Cost = C;
 
-    ghost holds = { λ m. matrix (admitted_by C.Cost.algebra C.Cost.value) m.n m.places.now };
+    ghost holds = { λ m. matrix (admits C.Cost) m.n m.places.now };
 
     fn size(&self) -> usize {
         nearest_size(self.n)
@@ -73,9 +84,14 @@ impl<'a, C: Cost> Register for Matrix<'a, C> {
 
     // Also what happens to the lent memory: a granted call writes the pair's place, and nothing else is touched.
     fn enter(&mut self, from: Format, to: Format, cost: C) -> Result<(), RegisterFault>
-        ensures answer { refusal result ≡ first_cause (enter_causes (matrix_means C.Cost.algebra C.Cost.value self.old) from to (C.Cost.algebra.admits (C.Cost.value cost))) }
-        ensures after { matrix_means C.Cost.algebra C.Cost.value self.new ≡ after (refusal result) (matrix_means C.Cost.algebra C.Cost.value self.old) (entered (matrix_means C.Cost.algebra C.Cost.value self.old) from to (C.Cost.value cost)) }
-        ensures memory { self.new.places.now ≡ after (refusal result) self.old.places.now (slice_set self.old.places.now (from * self.old.n + to) (Some cost)) }
+        ensures answer { let m = matrix_means C.Cost self.old in
+            refusal result ≡ first_cause (enter_causes m from to (admits C.Cost cost)) }
+        ensures after { let m = matrix_means C.Cost self.old in
+            matrix_means C.Cost self.new
+            ≡ after (refusal result) m (entered m from to (C.value cost)) }
+        ensures memory { let places = self.old.places.now in
+            let written = slice_set places (from * self.old.n + to) (Some cost) in
+            self.new.places.now ≡ after (refusal result) places written }
         ensures size { self.new.n ≡ self.old.n }
         ensures lent { self.new.places.ghost_name ≡ self.old.places.ghost_name }
     {
@@ -88,12 +104,15 @@ impl<'a, C: Cost> Register for Matrix<'a, C> {
         Ok(())
     }
 
-    // Also what happens to the lent memory, in clauses since they are promises to its lender: a granted call clears the pair's
-    // place, and nothing else is touched.
+    // Also what happens to the lent memory: a granted call clears the pair's place, and nothing else is touched.
     fn withdraw(&mut self, from: Format, to: Format) -> Result<(), RegisterFault>
-        ensures answer { refusal result ≡ first_cause (withdraw_causes (matrix_means C.Cost.algebra C.Cost.value self.old) from to) }
-        ensures after { matrix_means C.Cost.algebra C.Cost.value self.new ≡ after (refusal result) (matrix_means C.Cost.algebra C.Cost.value self.old) (withdrawn (matrix_means C.Cost.algebra C.Cost.value self.old) from to) }
-        ensures memory { self.new.places.now ≡ after (refusal result) self.old.places.now (slice_set self.old.places.now (from * self.old.n + to) None) }
+        ensures answer { let m = matrix_means C.Cost self.old in
+            refusal result ≡ first_cause (withdraw_causes m from to) }
+        ensures after { let m = matrix_means C.Cost self.old in
+            matrix_means C.Cost self.new ≡ after (refusal result) m (withdrawn m from to) }
+        ensures memory { let places = self.old.places.now in
+            let cleared = slice_set places (from * self.old.n + to) None in
+            self.new.places.now ≡ after (refusal result) places cleared }
         ensures size { self.new.n ≡ self.old.n }
         ensures lent { self.new.places.ghost_name ≡ self.old.places.ghost_name }
     {

@@ -2,7 +2,7 @@
 -- Where it waits, some allowed line goes on; where a byte is refused, none does.
 use Rattle.std.proofs.Common.{◌≡◌, ℕ, ◌+◌, ◌-◌, ◌<◌, ◌≤◌, Bool, true, false, List, [], ◌∷◌, ◌++◌, length, get_or, take, drop, pos, neg_ℤ, Some, None, Option, codes, sym, refl, ap, ◌∙◌, subst, arith}
 use Rattle.std.proofs.lemmas.List.{take_more, take_all, take-append-drop, drop-drop, get_or-drop, length-drop, length-take-le}
-use Rattle.lines.specs.Grammar.{line_text, Allowed, Coded, Fits, Unfinished, part, number_begins, code_begins, IsRead}
+use Rattle.lines.specs.Grammar.{line_text, Allowed, FourSigns, Fits, Unfinished, part, number_begins, code_begins, IsRead}
 use Rattle.lines.specs.Rests.{Rest, dead, over, after_byte, fixed, letters_of, ending, closing, size_rest, code_rest, number_rest, below_zero, not_below, cost_rest, pair_end, to_rest, from_rest, kind_choice, word_end, word_rest, first_rest, line_rest, reading, cost_reading, rest_at, to_come}
 use Rattle.lines.specs.declared.line.Kind.{Kind}
 use Rattle.lines.specs.declared.line.Kind.TheVariants.{Delay, Depth}
@@ -181,7 +181,7 @@ part_split text from end l =
     sym (take-append-drop (end - from) (drop from text))
     ∙ ap (λ ds. part text from end ++ ds) (drop-drop (end - from) from text ∙ ap (λ n. drop n text) e)
 
-pub coded : (stage : Stage) (l : Line) → Allowed stage l → Coded l
+pub coded : (stage : Stage) (l : Line) → Allowed stage l → FourSigns l
 coded Start (line.Bay kind n) h = tt
 coded Start (line.Format k code) h = absurd h
 coded Start (line.Card a b cost) h = tt
@@ -204,7 +204,7 @@ coded Legs (line.Leg a b) h = tt
 coded Legs line.End h = tt
 
 -- what is answered where a line ends
-pub line_ends : (stage : Stage) (text : List ℕ) (from end : ℕ) (r : Reader) → from ≤ end → end ≤ length text → to_come r ≡ run (line_rest stage) (part text from end) → r.state ≡ Over → Coded r.line × (end ≡ from + length (line_text r.line))
+pub line_ends : (stage : Stage) (text : List ℕ) (from end : ℕ) (r : Reader) → from ≤ end → end ≤ length text → to_come r ≡ run (line_rest stage) (part text from end) → r.state ≡ Over → FourSigns r.line × (end ≡ from + length (line_text r.line))
 line_ends stage text from end r l m e o =
     let h = was_read stage (part text from end) r e o in
     (coded stage r.line h.0, part_length text from end l m ∙ ap (λ bs. from + length bs) (sym h.1))

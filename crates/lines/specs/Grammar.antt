@@ -91,12 +91,12 @@ code_begins from (Leg a b) = from + length (line_text (Leg a b))
 code_begins from End = from + length (line_text End)
 
 -- the code of a line, if it has one, has four signs
-abbrev pub Coded : Line → Type 0
-Coded (Bay kind n) = Unit {0}
-Coded (Format k code) = length code ≡ 4
-Coded (Card a b cost) = Unit {0}
-Coded (Leg a b) = Unit {0}
-Coded End = Unit {0}
+abbrev pub FourSigns : Line → Type 0
+FourSigns (Bay kind n) = Unit {0}
+FourSigns (Format k code) = length code ≡ 4
+FourSigns (Card a b cost) = Unit {0}
+FourSigns (Leg a b) = Unit {0}
+FourSigns End = Unit {0}
 
 -- From `from` on, the text is the line and then what stands at its end and after.
 pub record IsRead (stage : Stage) (text : List ℕ) (from : ℕ) (read : Read) : Type 0 where

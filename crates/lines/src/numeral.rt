@@ -33,7 +33,8 @@ impl Numeral {
         requires { digit sign ≡ true }
         ensures fits { result ≡ takes_digit self.old.value }
         ensures minus { self.new.minus ≡ self.old.minus }
-        ensures value { self.new.value ≡ (if result then with_digit self.old.value sign else self.old.value) }
+        ensures value { self.new.value
+            ≡ (if result then with_digit self.old.value sign else self.old.value) }
     {
         let digit = u32::from(sign - b'0');
         self.value = match self.value {

@@ -2,7 +2,7 @@
 ghost use Rattle.std.specs.Prelude.{◌≡◌, ◌+◌, true, false, ◌||◌, length, None, if◌then◌else◌};
 ghost use Rattle.lines.specs.Signs.{digit, letter};
 ghost use Rattle.lines.specs.declared.reader.State.TheVariants.{InWord, InKind, PairEnd, InCode, Ending};
-ghost use Rattle.lines.specs.Grammar.{line_text, Coded, number_begins, code_begins, ReadLine, Alone};
+ghost use Rattle.lines.specs.Grammar.{line_text, FourSigns, number_begins, code_begins, ReadLine, Alone};
 ghost use Rattle.lines.specs.Rests.{line_rest, to_come, left, after_byte, takes_letter, with_letter};
 
 use crate::line::{Kind, Line, Read, Stage, Unfit};
@@ -29,7 +29,7 @@ pub enum State {
     Over,
 }
 
-// The reader changes in place, by a rule of the project, so each thing that it may know has a field: what its state does not
+// One reader takes a whole line and changes in place, so each thing that it may know has a field: what its state does not
 // speak of is of no account. Its methods answer whether the sign fits, and no more: a false answer ends the reading. What may come
 // after the sign is the one clause of each, since that is what each is for.
 #[derive(Drop)]
@@ -303,7 +303,7 @@ impl Reader {
 
 // The line that was read, with its places.
 fn placed(line: Line, from: usize, end: usize) -> Read
-    requires coded { Coded line }
+    requires coded { FourSigns line }
     requires whole { end ≡ from + length (line_text line) }
     ensures line { result.line ≡ line }
     ensures end { result.end ≡ end }

@@ -45,7 +45,7 @@ pub fn word_by(stage: Stage, letter: u8) -> Option<Word>
     }
 }
 
-// Whether two texts are the same. Codes and words are compared by this alone, by a rule of the project.
+// Whether two texts are the same. Codes are compared by this alone; the words of a line, which come letter by letter, are not.
 pub fn same_bytes(a: &[u8], b: &[u8]) -> bool
     ensures { Decides result (a.now ≡ b.now) }
 {

@@ -1,38 +1,59 @@
 -- A ticket's text in, and the text of its answer out.
-use Rattle.std.specs.Prelude.{◌≡◌, ℕ, ◌*◌, ◌≤◌, List, length, Result}
+use Rattle.std.specs.Prelude.{◌≡◌, ℕ, ◌*◌, ◌≤◌, ◌⊎◌, List, length, Ok, Err, Result}
+use Rattle.costs.specs.declared.Cost.{Ghosts as CostKind}
+use Rattle.costs.specs.Kinds.{delays, depths}
 use Rattle.registers.specs.Meaning.{most_formats}
-use Rattle.bay.specs.Legs.{most_legs}
-use Rattle.bay.specs.Plain.{row_bytes}
-use Rattle.ticket.specs.Answers.{OfKind, Memory, TicketAnswer}
+use Rattle.bay.specs.Limits.{most_legs}
+use Rattle.bay.specs.Sheet.{row_bytes}
+use Rattle.lines.specs.declared.line.Kind.{Kind}
+use Rattle.lines.specs.declared.line.Kind.TheVariants as kind
+use Rattle.ticket.specs.Answers.{Contents, HasBay, KindAnswer, BayAnswer}
+use Rattle.ticket.specs.Faults.{ticket_code}
+use Rattle.ticket.specs.Texts.{CostTexts, delay_texts, depth_texts}
 use Rattle.ticket.specs.Said.{ticket_entries}
-use Rattle.ticket_laws.specs.Whole.{WholeAnswer}
 use Rattle.ticket.specs.declared.fault.Refusal.{Refusal}
-use Rattle.ticket.specs.declared.serve.Granted.{Granted}
+use Rattle.ticket.specs.declared.serve.BayLine.{BayLine}
+use Rattle.ticket_laws.specs.Whole.{Whole}
 use Rattle.listing.specs.declared.answer.PlaceShort.{PlaceShort}
 use Rattle.listing.specs.Output.{Printed}
-use Rattle.listing.specs.Text.{text_from}
+use Rattle.listing.specs.Text.{code_line, text_from}
 
--- The ticket is answered; a granted one has least chains for its legs over the cards that its text says; and its answer's text,
--- from what is then in the memory, is printed into the place.
-pub record Answered (text : List ℕ) (m m' : Memory) (place place' : List ℕ) (r : Result ℕ PlaceShort) : Type 0 where
-  pub answer : Result Granted Refusal
-  pub right : TicketAnswer text m m' answer
-  pub whole : WholeAnswer text m' answer
-  pub printed : Printed place place' (text_from m' answer) r
+-- memory that will do for every ticket
+pub record Ample {C : Type 0} (m : Contents C) : Type 0 where
+  pub entries : ticket_entries ≤ length m.entries
+  pub table : most_formats * most_formats ≤ length m.buffers.table
+  pub costs : most_legs ≤ length m.buffers.costs
+  pub chains : row_bytes * most_legs ≤ length m.buffers.chains
+  pub codes : length m.codes ≡ most_formats
+  pub ends : length m.ends ≡ most_legs
 
--- memory that will do for every ticket of a kind
-pub record Ample {C : Type 0} (k : OfKind C) : Type 0 where
-  pub entries : ticket_entries ≤ length k.entries
-  pub table : most_formats * most_formats ≤ length k.table
-  pub costs : most_legs ≤ length k.costs
+-- what a granted ticket is, whose bay line was read
+abbrev pub WholeIf : {C : Type 0} → CostKind C → CostTexts C → List ℕ → BayLine → Contents C → Result ℕ Refusal → Type 0
+WholeIf K T text bay m (Ok legs) = HasBay text bay → Whole K T.reads text bay.kind bay.size legs m.buffers.costs m.buffers.chains
+WholeIf K T text bay m (Err refusal) = Unit {0}
 
--- The ticket is answered in some memory that will do for every ticket, so that no memory is ever too short.
-pub record Listed (text : List ℕ) (place place' : List ℕ) (r : Result ℕ PlaceShort) : Type 0 where
-  pub before : Memory
-  pub after : Memory
-  pub delay : Ample before.delay
-  pub depth : Ample before.depth
-  pub chains : row_bytes * most_legs ≤ length before.common.chains
-  pub codes : length before.common.codes ≡ most_formats
-  pub ends : length before.common.ends ≡ most_legs
-  pub answered : Answered text before after place place' r
+-- A ticket whose bay line was read is answered; a granted one has least chains for its legs over the cards that its text says;
+-- and its answer's text, from what is then in the memory, is printed into the place.
+pub record Answered {C : Type 0} (K : CostKind C) (T : CostTexts C) (text : List ℕ) (bay : BayLine) (m m' : Contents C) (place place' : List ℕ) (r : Result ℕ PlaceShort) : Type 0 where
+  pub answer : Result ℕ Refusal
+  pub right : KindAnswer K T.reads text bay.end m m' answer bay.size
+  pub whole : WholeIf K T text bay m' answer
+  pub printed : Printed place place' (text_from T.writes m' answer) r
+
+-- The same in some memory that will do for every ticket, so that no memory is ever too short.
+pub record ListedOf {C : Type 0} (K : CostKind C) (T : CostTexts C) (text : List ℕ) (bay : BayLine) (place place' : List ℕ) (r : Result ℕ PlaceShort) : Type 0 where
+  pub before : Contents C
+  pub after : Contents C
+  pub ample : Ample before
+  pub answered : Answered K T text bay before after place place' r
+
+-- what is listed of a ticket of each kind
+abbrev pub ListedAs : Kind → List ℕ → BayLine → List ℕ → List ℕ → Result ℕ PlaceShort → Type 0
+ListedAs kind.Delay = ListedOf delays delay_texts
+ListedAs kind.Depth = ListedOf depths depth_texts
+
+-- A ticket is refused at its first line, or answered as its kind is.
+abbrev pub Listed : List ℕ → List ℕ → List ℕ → Result ℕ PlaceShort → Type 0
+Listed text place place' r =
+    ((refusal : Refusal) × BayAnswer text (Err refusal) × Printed place place' (code_line (ticket_code refusal.fault) refusal.byte) r) ⊎
+    ((bay : BayLine) × HasBay text bay × ListedAs bay.kind text bay place place' r)

@@ -2,20 +2,15 @@
 use Rattle.std.specs.Prelude.{ℕ, zero, suc, min, cond, List, [], ◌∷◌, ◌++◌, map, take, drop, ℤ, pos, Ok, Err, codes, decimal, Result, ◌==◌, slice_index, slice_index_or}
 use Rattle.std.specs.Fmt.{signed_decimal}
 use Rattle.std.specs.List.{flat_map}
-use Rattle.costs.specs.declared.delay.Delay.{Delay}
-use Rattle.costs.specs.declared.depth.Depth.{Depth}
 use Rattle.registers.specs.Text.{layer_text}
 use Rattle.registers.specs.declared.fault.Code.{Code}
-use Rattle.walks.specs.Sheet.{row_at}
-use Rattle.bay.specs.Legs.{most_legs}
+use Rattle.bay.specs.Sheet.{row_at}
+use Rattle.bay.specs.Limits.{most_legs}
 use Rattle.bay.specs.Routes.{no_ends}
 use Rattle.bay.specs.declared.legs.Ends.{Ends}
-use Rattle.lines.specs.declared.line.Kind.{Kind}
-use Rattle.lines.specs.declared.line.Kind.TheVariants as kind
-use Rattle.ticket.specs.Answers.{Memory}
+use Rattle.ticket.specs.Answers.{Contents}
 use Rattle.ticket.specs.Faults.{ticket_code}
 use Rattle.ticket.specs.declared.fault.Refusal.{Refusal}
-use Rattle.ticket.specs.declared.serve.Granted.{Granted}
 
 -- texts one after the other
 abbrev pub pieces : List (List ℕ) → List ℕ
@@ -28,18 +23,18 @@ formats_of chains k = take (slice_index (row_at chains k) 0) (drop 1 (row_at cha
 
 module _ (fourccs : List (List ℕ)) where
   -- the code of a format
-  abbrev pub code_text : ℕ → List ℕ
-  code_text f = slice_index_or fourccs f []
+  abbrev pub fourcc_text : ℕ → List ℕ
+  fourcc_text f = slice_index_or fourccs f []
 
   -- the codes of some formats, with a space between them
-  abbrev pub codes_text : List ℕ → List ℕ
-  codes_text [] = []
-  codes_text (f ∷ fs) = code_text f ++ flat_map (λ g. codes " " ++ code_text g) fs
+  abbrev pub fourccs_text : List ℕ → List ℕ
+  fourccs_text [] = []
+  fourccs_text (f ∷ fs) = fourcc_text f ++ flat_map (λ g. codes " " ++ fourcc_text g) fs
 
   -- what was found for a leg: the cost and the codes of its chain, or none
   abbrev pub found_text : ℤ → List ℕ → List ℕ
   found_text cost [] = codes "none"
-  found_text cost (f ∷ fs) = pieces (signed_decimal cost ∷ codes " (" ∷ codes_text (f ∷ fs) ∷ codes ")" ∷ [])
+  found_text cost (f ∷ fs) = pieces (signed_decimal cost ∷ codes " (" ∷ fourccs_text (f ∷ fs) ∷ codes ")" ∷ [])
 
   -- the line of leg k
   abbrev pub leg_text : ℕ → Ends → ℤ → List ℕ → List ℕ
@@ -58,7 +53,7 @@ module _ (fourccs : List (List ℕ)) where
 
   -- the line of a loop
   abbrev pub loop_text : List ℕ → List ℕ
-  loop_text formats = pieces (codes "(loop (" ∷ codes_text formats ∷ codes "))" ∷ (10 ∷ []) ∷ [])
+  loop_text formats = pieces (codes "(loop (" ∷ fourccs_text formats ∷ codes "))" ∷ (10 ∷ []) ∷ [])
 
 -- the line of a refusal: layer, number, part and byte
 abbrev pub code_line : Code → ℕ → List ℕ
@@ -74,16 +69,11 @@ abbrev pub refusal_text : List (List ℕ) → List ℕ → Refusal → List ℕ
 refusal_text fourccs chains r =
     code_line (ticket_code r.fault) r.byte ++ cond ((ticket_code r.fault).number == loop_number) (loop_text fourccs (formats_of chains 0)) []
 
--- the numbers of a cost sheet of the kind
-abbrev pub numbers_of : List Delay → List Depth → Kind → List ℤ
-numbers_of delays depths kind.Delay = map (λ d. d.lines) delays
-numbers_of delays depths kind.Depth = map (λ d. pos d.bits) depths
-
--- the text of an answer
-abbrev pub answer_text : List (List ℕ) → List Ends → List Delay → List Depth → List ℕ → Result Granted Refusal → List ℕ
-answer_text fourccs ends delays depths chains (Ok granted) = listing_text fourccs ends (numbers_of delays depths granted.kind) chains granted.legs
-answer_text fourccs ends delays depths chains (Err refusal) = refusal_text fourccs chains refusal
+-- the text of an answer, where the legs' costs are these numbers
+abbrev pub answer_text : List (List ℕ) → List Ends → List ℤ → List ℕ → Result ℕ Refusal → List ℕ
+answer_text fourccs ends numbers chains (Ok legs) = listing_text fourccs ends numbers chains legs
+answer_text fourccs ends numbers chains (Err refusal) = refusal_text fourccs chains refusal
 
 -- the text of an answer, from what its ticket has left in the memory
-abbrev pub text_from : Memory → Result Granted Refusal → List ℕ
-text_from m = answer_text m.common.codes m.common.ends m.delay.costs m.depth.costs m.common.chains
+abbrev pub text_from : {C : Type 0} → (C → ℤ) → Contents C → Result ℕ Refusal → List ℕ
+text_from writes m = answer_text m.codes m.ends (map writes m.buffers.costs) m.buffers.chains

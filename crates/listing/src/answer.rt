@@ -1,24 +1,26 @@
 // The text of an answer, whole.
 ghost use Rattle.std.specs.Prelude.{◌≡◌, ◌==◌, map, pos, slice_index_or};
-ghost use Rattle.ticket.specs.Answers.{of_memory, SameSheets, SameShared};
+ghost use Rattle.ticket.specs.Answers.{SameMemory, contents};
 ghost use Rattle.ticket.specs.Faults.{ticket_code};
+ghost use Rattle.ticket.specs.Texts.{texts};
 ghost use Rattle.listing.specs.Answered.{Answered};
 ghost use Rattle.listing.specs.Output.{Writes, Printed};
-ghost use Rattle.listing.specs.Text.{listing_text, loop_text, loop_number, refusal_text, answer_text, text_from};
+ghost use Rattle.listing.specs.Text.{answer_text, code_line, listing_text, loop_number, loop_text};
+ghost use Rattle.listing.specs.Text.{refusal_text, text_from};
 
 use crate::output::Output;
 use crate::text::{put_code_line, put_codes, put_leg, row_formats};
 use bay::BayFault;
-use costs::{Cost, Delay, Depth};
-use lines::Kind;
+use costs::Cost;
 use ticket::{
-    Ends, FourCc, Granted, MOST_CODES, MOST_LEGS, Refusal, Shared, Sheets, TicketCost, TicketFault,
+    BayLine, Ends, FourCc, MOST_CODES, MOST_LEGS, Memory, Refusal, TicketCost, TicketFault,
     route_ticket,
 };
 
-// The memory for tickets of every kind, as it is read to write an answer.
+// The memory of a ticket, as it is read to write its answer.
 #[derive(Clone, Copy)]
-pub struct View<'a> {
+pub struct View<'a, C> {
+    pub costs: &'a [C],
     pub chains: &'a [u8],
     pub codes: &'a [FourCc; MOST_CODES],
     pub ends: &'a [Ends; MOST_LEGS],
@@ -26,17 +28,18 @@ pub struct View<'a> {
 
 // The number that stands for cost `k` of the sheet.
 fn number_at<C: TicketCost>(costs: &[C], k: usize) -> i32
-    ensures { result ≡ slice_index_or (map C.TicketCost.writes costs.now) k (pos 0) }
+    ensures { result ≡ slice_index_or (map C.writes costs.now) k (pos 0) }
 {
     costs.get(k).map_or(0, |cost| cost.number())
 }
 
 // A line for each leg, and the end line.
-fn put_listing<C: TicketCost>(out: &mut Output, costs: &[C], view: &View<'_>, legs: usize)
-    ensures { Writes out.old out.new (listing_text view.now.codes.now view.now.ends.now (map C.TicketCost.writes costs.now) view.now.chains.now legs) }
+fn put_listing<C: TicketCost>(out: &mut Output, view: &View<'_, C>, legs: usize)
+    ensures { Writes out.old out.new (listing_text view.now.codes.now view.now.ends.now
+        (map C.writes view.now.costs.now) view.now.chains.now legs) }
 {
     for (k, leg) in view.ends[..legs.min(MOST_LEGS)].iter().enumerate() {
-        let cost = number_at(costs, k);
+        let cost = number_at(view.costs, k);
         put_leg(out, view.codes, k, *leg, cost, row_formats(view.chains, k));
     }
     out.put(b"(end)");
@@ -61,32 +64,23 @@ fn is_loop(fault: TicketFault) -> bool
 }
 
 // The line of a refusal, and that of the loop if there is one.
-fn put_refusal(out: &mut Output, view: &View<'_>, refusal: Refusal)
-    ensures { Writes out.old out.new (refusal_text view.now.codes.now view.now.chains.now refusal) }
+fn put_refusal(out: &mut Output, chains: &[u8], codes: &[FourCc; MOST_CODES], refusal: Refusal)
+    ensures { Writes out.old out.new (refusal_text codes.now chains.now refusal) }
 {
     put_code_line(out, refusal.fault.code(), refusal.byte);
     if is_loop(refusal.fault) {
-        put_loop(out, view.codes, row_formats(view.chains, 0));
+        put_loop(out, codes, row_formats(chains, 0));
     }
 }
 
 // The whole text.
-fn put_answer(
-    out: &mut Output,
-    answer: &Result<Granted, Refusal>,
-    delays: &[Delay],
-    depths: &[Depth],
-    view: &View<'_>,
-)
-    ensures { Writes out.old out.new (answer_text view.now.codes.now view.now.ends.now delays.now depths.now view.now.chains.now answer.now) }
+fn put_answer<C: TicketCost>(out: &mut Output, answer: &Result<usize, Refusal>, view: &View<'_, C>)
+    ensures { Writes out.old out.new (answer_text view.now.codes.now view.now.ends.now
+        (map C.writes view.now.costs.now) view.now.chains.now answer.now) }
 {
-    // A match on the kind, since the costs of each kind have a type of their own.
     match answer {
-        Ok(granted) => match granted.kind {
-            Kind::Delay => put_listing(out, delays, view, granted.legs),
-            Kind::Depth => put_listing(out, depths, view, granted.legs),
-        },
-        Err(refusal) => put_refusal(out, view, *refusal),
+        Ok(legs) => put_listing(out, view, *legs),
+        Err(refusal) => put_refusal(out, view.chains, view.codes, *refusal),
     }
 }
 
@@ -98,60 +92,74 @@ pub struct PlaceShort {
 
 // Writes the text of an answer, from what a ticket has left in the memory that was lent for it, and answers its length. A
 // place that is too short is left as it was.
-pub fn write_answer(
+pub fn write_answer<C: TicketCost>(
     place: &mut [u8],
-    answer: &Result<Granted, Refusal>,
-    delays: &[Delay],
-    depths: &[Depth],
-    view: View<'_>,
+    answer: &Result<usize, Refusal>,
+    view: View<'_, C>,
 ) -> Result<usize, PlaceShort>
-    ensures { Printed place.old place.new (answer_text view.entry.codes.now view.entry.ends.now delays.now depths.now view.entry.chains.now answer.now) result }
+    ensures { Printed place.old place.new (answer_text view.entry.codes.now view.entry.ends.now
+        (map C.writes view.entry.costs.now) view.entry.chains.now answer.now) result }
 {
     let mut nothing: [u8; 0] = [];
     let mut count = Output::new(&mut nothing);
-    put_answer(&mut count, answer, delays, depths, &view);
+    put_answer(&mut count, answer, &view);
     let length = count.finish();
     if length > place.len() {
         return Err(PlaceShort { needed: length });
     }
     let mut out = Output::new(place);
-    put_answer(&mut out, answer, delays, depths, &view);
+    put_answer(&mut out, answer, &view);
     Ok(out.finish())
 }
 
-// Writes the text of an answer from the memory that is lent. A function of its own: within `answer_ticket`, whose structs hold
-// `&mut`, the checker does not cover a `&` through them.
-fn write_lent(
-    place: &mut [u8],
-    answer: &Result<Granted, Refusal>,
-    delay: &Sheets<'_, Delay>,
-    depth: &Sheets<'_, Depth>,
-    shared: &Shared<'_>,
-) -> Result<usize, PlaceShort>
-    ensures { Printed place.old place.new (text_from (of_memory delay.now depth.now shared.now) answer.now) result }
+// Writes the line of a ticket that is refused at its first line.
+pub fn write_refusal(place: &mut [u8], refusal: Refusal) -> Result<usize, PlaceShort>
+    ensures { let line = code_line (ticket_code refusal.fault) refusal.byte in
+        Printed place.old place.new line result }
 {
-    let view = View {
-        chains: shared.chains,
-        codes: shared.codes,
-        ends: shared.ends,
-    };
-    write_answer(place, answer, delay.costs, depth.costs, view)
+    let mut nothing: [u8; 0] = [];
+    let mut count = Output::new(&mut nothing);
+    put_code_line(&mut count, refusal.fault.code(), refusal.byte);
+    let needed = count.finish();
+    if needed > place.len() {
+        return Err(PlaceShort { needed });
+    }
+    let mut out = Output::new(place);
+    put_code_line(&mut out, refusal.fault.code(), refusal.byte);
+    Ok(out.finish())
 }
 
-// Routes a ticket and writes the text of its answer, in memory that is lent. The answer is that of `route_ticket`, and its
-// text that of `write_answer`.
-pub fn answer_ticket(
+// Writes the text of an answer from the memory that is lent. A function of its own: within `answer_ticket`, whose struct holds
+// `&mut`, the checker does not cover a `&` through it.
+fn write_lent<C: TicketCost>(
+    place: &mut [u8],
+    answer: &Result<usize, Refusal>,
+    memory: &Memory<'_, C>,
+) -> Result<usize, PlaceShort>
+    ensures { let text = text_from C.writes (contents memory.now) answer.now in
+        Printed place.old place.new text result }
+{
+    let view = View {
+        costs: memory.costs,
+        chains: memory.chains,
+        codes: memory.codes,
+        ends: memory.ends,
+    };
+    write_answer(place, answer, view)
+}
+
+// Routes a ticket whose first line was read, and writes the text of its answer, in memory that is lent. The answer is that of
+// `route_ticket`, and its text that of `write_answer`.
+pub fn answer_ticket<C: TicketCost>(
     text: &[u8],
-    delay: &mut Sheets<'_, Delay>,
-    depth: &mut Sheets<'_, Depth>,
-    shared: &mut Shared<'_>,
+    bay: BayLine,
+    memory: &mut Memory<'_, C>,
     place: &mut [u8],
 ) -> Result<usize, PlaceShort>
-    ensures answer { Answered text.now (of_memory delay.old depth.old shared.old) (of_memory delay.new depth.new shared.new) place.old place.new result }
-    ensures delay { SameSheets delay.old delay.new }
-    ensures depth { SameSheets depth.old depth.new }
-    ensures shared { SameShared shared.old shared.new }
+    ensures answer { Answered C.Cost (texts C.reads C.writes) text.now bay (contents memory.old)
+        (contents memory.new) place.old place.new result }
+    ensures same { SameMemory memory.old memory.new }
 {
-    let answer = route_ticket(text, delay, depth, shared);
-    write_lent(place, &answer, delay, depth, shared)
+    let answer = route_ticket(text, bay, memory);
+    write_lent(place, &answer, memory)
 }

@@ -6,5 +6,5 @@ mod on_stack;
 mod output;
 mod text;
 
-pub use answer::{PlaceShort, View, answer_ticket, write_answer};
+pub use answer::{PlaceShort, View, answer_ticket, write_answer, write_refusal};
 pub use on_stack::answer_on_stack;

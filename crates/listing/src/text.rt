@@ -1,17 +1,18 @@
 // The lines of an answer.
 ghost use Rattle.std.specs.Prelude.{◌≡◌, ◌≤◌};
+ghost use Rattle.registers.specs.Meaning.{most_formats};
 ghost use Rattle.registers.specs.Text.{layer_text};
 ghost use Rattle.listing.specs.Output.{Writes};
-ghost use Rattle.listing.specs.Text.{formats_of, code_text, codes_text, found_text, leg_text, code_line};
+ghost use Rattle.listing.specs.Text.{formats_of, fourcc_text, fourccs_text, found_text, leg_text, code_line};
 
 use crate::output::Output;
+use bay::ROW;
 use registers::{Code, Layer};
 use ticket::{Ends, FourCc, MOST_CODES};
-use walks::ROW;
 
 // The formats of row `k`, as many as its number says.
 pub(crate) fn row_formats(chains: &[u8], k: usize) -> &[u8]
-    requires { k ≤ 64 }
+    requires { k ≤ most_formats }
     ensures { result.now ≡ formats_of chains.now k }
 {
     let start = chains.len().min(ROW * k);
@@ -24,7 +25,7 @@ pub(crate) fn row_formats(chains: &[u8], k: usize) -> &[u8]
 
 // The code of a format. Output and codes are two arguments: a place of bytes knows no codes, and counting a text writes it too.
 fn put_code(out: &mut Output, codes: &[FourCc; MOST_CODES], format: u8)
-    ensures { Writes out.old out.new (code_text codes.now format) }
+    ensures { Writes out.old out.new (fourcc_text codes.now format) }
 {
     if let Some(code) = codes.get(format as usize) {
         out.put(code);
@@ -33,7 +34,7 @@ fn put_code(out: &mut Output, codes: &[FourCc; MOST_CODES], format: u8)
 
 // The codes of some formats, with a space between them.
 pub(crate) fn put_codes(out: &mut Output, codes: &[FourCc; MOST_CODES], formats: &[u8])
-    ensures { Writes out.old out.new (codes_text codes.now formats.now) }
+    ensures { Writes out.old out.new (fourccs_text codes.now formats.now) }
 {
     let Some((first, others)) = formats.split_first() else {
         return;

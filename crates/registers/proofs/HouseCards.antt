@@ -5,16 +5,16 @@ use Rattle.std.proofs.lemmas.List.{get_or-map}
 use Rattle.std.proofs.lemmas.List.Folds.{list_all_at}
 use Rattle.std.proofs.lemmas.Bool.{false≢true, leb-true}
 use Rattle.costs.specs.Delay.{most_lines}
-use Rattle.registers.specs.House.{house_cards, number, delayed}
+use Rattle.registers.specs.House.{house_cards, house_places, number, delayed}
 
-pub number_held : (k : ℕ) → k < 64 → get_or (map number house_cards) k (pos 0) ≡ number (get_or house_cards k None)
+pub number_held : (k : ℕ) → k < house_places → get_or (map number house_cards) k (pos 0) ≡ number (get_or house_cards k None)
 number_held k h = get_or-map number house_cards k None (pos 0) h
 
 abbrev fine : Option ℤ → Bool
 fine None = true
 fine (Some z) = leb (nat_abs z) most_lines
 
-pub house_admitted : (k : ℕ) → k < 64 → fine (get_or house_cards k None) ≡ true
+pub house_admitted : (k : ℕ) → k < house_places → fine (get_or house_cards k None) ≡ true
 house_admitted k h = by_test (fine (get_or house_cards k None)) refl
   where
     by_test : (t : Bool) → fine (get_or house_cards k None) ≡ t → t ≡ true

@@ -1,4 +1,3 @@
 pub mod HouseCards
 pub mod Meanings
-pub mod Bars
-pub mod Reversals
+pub mod Views

@@ -1,6 +1,7 @@
 -- A bar: some formats of a register are taken out of use, and the register below stays as it is.
-use Rattle.std.specs.Prelude.{ℕ, ◌/◌, ◌%◌, ◌^◌, Bool, cond, ◌||◌, None, ◌==◌}
+use Rattle.std.specs.Prelude.{ℕ, ◌/◌, ◌%◌, ◌^◌, Bool, false, ◌||◌, ◌==◌}
 use Rattle.registers.specs.Meaning.{Meaning}
+use Rattle.registers.specs.View.{viewed}
 
 -- bit f bars the format f
 abbrev pub bars : ℕ → ℕ → Bool
@@ -12,9 +13,4 @@ touches bits a b = bars bits a || bars bits b
 
 -- such a pair has no card and is sealed; everything else is as below
 abbrev pub barred : {V : Type 0} → ℕ → Meaning V → Meaning V
-barred bits m = record {
-  size = m.size;
-  cards = λ a b. cond (touches bits a b) None (m.cards a b);
-  sealed = λ a b. touches bits a b || m.sealed a b;
-  free = m.free;
-}
+barred bits = viewed (touches bits) false

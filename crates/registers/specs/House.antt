@@ -7,6 +7,10 @@ use Rattle.registers.specs.Meaning.{Meaning}
 abbrev pub house_size : ℕ
 house_size = 8
 
+-- a place for each pair
+abbrev pub house_places : ℕ
+house_places = house_size * house_size
+
 -- so many lines
 abbrev p : ℕ → Option ℤ
 p n = Some (pos n)

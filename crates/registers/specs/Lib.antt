@@ -3,5 +3,7 @@ pub mod Ends
 pub mod Text
 pub mod Meaning
 pub mod House
+pub mod View
+pub mod Over
 pub mod Bar
 pub mod Reversed

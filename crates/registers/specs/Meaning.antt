@@ -1,14 +1,23 @@
 -- What a register holds, and what its calls answer and change.
-use Rattle.std.specs.Prelude.{ℕ, ◌+◌, ◌-◌, Bool, cond, not, ◌&&◌, List, [], ◌∷◌, ◌++◌, is_some, Some, None, Option, ◌==◌, nat_lt}
+use Rattle.std.specs.Prelude.{ℕ, ◌+◌, ◌-◌, ◌≤◌, Bool, cond, not, ◌&&◌, List, [], ◌∷◌, ◌++◌, is_some, Some, None, Option, ◌==◌, nat_lt}
 use Rattle.std.specs.Option.{option_map}
+use Rattle.costs.specs.declared.Cost.{Ghosts as Kind}
 use Rattle.registers.specs.Fault.{code}
 use Rattle.registers.specs.declared.fault.Code.{Code}
 use Rattle.registers.specs.declared.fault.Layer.{Layer}
 use Rattle.registers.specs.declared.fault.Layer.TheVariants.{Register}
 
--- a register has at least two formats and at most so many
+-- a register has at least two formats
+abbrev pub least_formats : ℕ
+least_formats = 2
+
+-- and at most so many
 abbrev pub most_formats : ℕ
 most_formats = 64
+
+-- so many formats a register can have
+abbrev pub IsSize : ℕ → Type 0
+IsSize n = (least_formats ≤ n) × (n ≤ most_formats)
 
 -- two different formats of n
 abbrev pub possible : ℕ → ℕ → ℕ → Bool
@@ -33,8 +42,8 @@ pub record Meaning (V : Type 0) : Type 0 where
   pub free : ℕ
 
 -- what is held, by what its costs mean
-abbrev pub meant : {C V : Type 0} → (C → V) → Meaning C → Meaning V
-meant value m = record { size = m.size; cards = λ a b. option_map value (m.cards a b); sealed = m.sealed; free = m.free }
+abbrev pub meant : {C : Type 0} (K : Kind C) → Meaning C → Meaning K.algebra.Value
+meant K m = record { size = m.size; cards = λ a b. option_map K.value (m.cards a b); sealed = m.sealed; free = m.free }
 
 module _ {V : Type 0} where
   -- only two different formats can have a card
@@ -65,3 +74,7 @@ module _ {V : Type 0} where
   -- why withdraw is refused, in order: its ends, a sealed pair, no card
   abbrev pub withdraw_causes : Meaning V → ℕ → ℕ → List (Bool × Code)
   withdraw_causes m a b = end_causes Register m.size a b ++ (m.sealed a b, code Register 21 0) ∷ (not (is_some (standing m a b)), code Register 22 0) ∷ []
+
+-- the cost of the standing card from a to b, by what it means
+abbrev pub stands : {C : Type 0} (K : Kind C) → Meaning C → ℕ → ℕ → Option K.algebra.Value
+stands K m = standing (meant K m)

@@ -1,82 +1,38 @@
 // A bar over a register: formats that are out of use.
-ghost use Rattle.std.specs.Prelude.{◌≡◌, ◌<◌};
-ghost use Rattle.registers.specs.Bar.{bars, touches, barred};
+ghost use Rattle.std.specs.Prelude.{◌≡◌, false};
+ghost use Rattle.registers.specs.Bar.{bars, touches};
+ghost use Rattle.registers.specs.View.{pair_below};
 
-use crate::judge::{judge_ends, judge_entry};
-use crate::{Format, Register, RegisterFault};
+use crate::Format;
+use crate::over::{Over, View};
 
-// A register with some formats out of use: bit f of `bits` bars the format f. A pair that touches a barred format has
-// no card and is sealed; everything else is as in the register below. A bar is a register too, so bars can be piled.
-#[derive(Drop)]
-pub struct Bar<R> {
-    below: R,
-    bits: u64,
+// The formats that are out of use: bit f bars the format f. A pair that touches a barred format has no card and is sealed;
+// everything else is as in the register below.
+#[derive(Clone, Copy, Debug, PartialEq, Eq)]
+pub struct Bars {
+    pub bits: u64,
 }
 
-// Whether a format is barred. A format is a plain number for every caller, so what is asked of it stands in a clause.
-fn has_bar(bits: u64, format: Format) -> bool
-    requires { format < 64 }
-    ensures { result ≡ bars bits format }
+// A register with some formats out of use. Bars can be piled.
+pub type Bar<R> = Over<R, Bars>;
+
+// Whether a bit is set, which none beyond the highest is.
+fn has_bit(bits: u64, place: usize) -> bool
+    ensures { result ≡ bars bits place }
 {
-    (bits >> format) & 1 == 1
+    place < u64::BITS as usize && (bits >> place) & 1 == 1
 }
 
-// Whether a pair touches a barred format.
-fn has_barred_end(bits: u64, from: Format, to: Format) -> bool
-    requires { (from < 64) × (to < 64) }
-    ensures { result ≡ touches bits from to }
-{
-    has_bar(bits, from) || has_bar(bits, to)
-}
+impl View for Bars {
+    ghost shuts = { λ b. touches b.bits };
 
-impl<R> Bar<R> {
-    // The register with these formats barred.
-    pub fn new(below: R, bits: u64) -> Bar<R>
-        ensures held { result.below ≡ below }
-        ensures barring { result.bits ≡ bits }
-    {
-        Bar { below, bits }
+    ghost turned = { λ _. false };
+
+    fn shuts(&self, from: Format, to: Format) -> bool {
+        has_bit(self.bits, from) || has_bit(self.bits, to)
     }
 
-    // The register below, as it now is.
-    pub fn into_below(self) -> R
-        ensures value { result ≡ self.below }
-    {
-        let Bar { below, bits: _ } = self;
-        below
-    }
-}
-
-impl<R: Register> Register for Bar<R> {
-    type Cost = R::Cost;
-
-    ghost holds = { λ b. barred b.bits (R.Register.holds b.below) };
-
-    fn size(&self) -> usize {
-        self.below.size()
-    }
-
-    fn card(&self, from: Format, to: Format) -> Option<R::Cost> {
-        judge_ends(self.below.size(), from, to).ok()?;
-        if has_barred_end(self.bits, from, to) {
-            return None;
-        }
-        self.below.card(from, to)
-    }
-
-    fn enter(&mut self, from: Format, to: Format, cost: R::Cost) -> Result<(), RegisterFault> {
-        judge_entry(self.below.size(), from, to, cost)?;
-        if has_barred_end(self.bits, from, to) {
-            return Err(RegisterFault::Sealed);
-        }
-        self.below.enter(from, to, cost)
-    }
-
-    fn withdraw(&mut self, from: Format, to: Format) -> Result<(), RegisterFault> {
-        judge_ends(self.below.size(), from, to)?;
-        if has_barred_end(self.bits, from, to) {
-            return Err(RegisterFault::Sealed);
-        }
-        self.below.withdraw(from, to)
+    fn pair_below(&self, from: Format, to: Format) -> (Format, Format) {
+        (from, to)
     }
 }

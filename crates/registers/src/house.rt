@@ -2,7 +2,7 @@
 ghost use Rattle.std.specs.Prelude.{◌≡◌, ◌<◌, true, IfSome, None, nat_le, slice_index_or, unsigned_abs};
 ghost use Rattle.std.specs.Option.{option_map};
 ghost use Rattle.costs.specs.Delay.{most_lines};
-ghost use Rattle.registers.specs.House.{house, house_cards, number, delayed};
+ghost use Rattle.registers.specs.House.{house, house_places, house_cards, number, delayed};
 
 use crate::judge::{judge_ends, judge_entry};
 use crate::{Format, Register, RegisterFault};
@@ -15,7 +15,7 @@ const NO: i32 = i32::MIN;
 
 // Lines of delay, row by row: a row for each format as `from`, a column for each as `to`.
 #[rattlefmt::skip]
-const HOUSE: [i32; 64] = [
+const HOUSE: [i32; HOUSE_SIZE * HOUSE_SIZE] = [
     NO, 4, 1, 5, NO, NO, 4, NO,
     -1, NO, NO, NO, NO, 2, 1, NO,
     1, NO, NO, NO, NO, NO, NO, NO,
@@ -32,7 +32,7 @@ pub struct HouseTable;
 
 // The number at a place of the table.
 fn number_at(place: usize) -> i32
-    requires { place < 64 }
+    requires { place < house_places }
     ensures { result ≡ number (slice_index_or house_cards place None) }
 {
     HOUSE[place]
@@ -40,7 +40,7 @@ fn number_at(place: usize) -> i32
 
 // The delay at a place of the table, which a card may have.
 fn delay_at(place: usize) -> Option<Delay>
-    requires { place < 64 }
+    requires { place < house_places }
     ensures value { result ≡ option_map delayed (slice_index_or house_cards place None) }
     ensures admitted { IfSome result (λ x. nat_le (unsigned_abs x.lines) most_lines ≡ true) }
 {

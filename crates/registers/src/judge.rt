@@ -1,5 +1,6 @@
 // The causes that every register judges first.
 ghost use Rattle.std.specs.Prelude.{◌≡◌, ◌&&◌, is_ok};
+ghost use Rattle.costs.specs.Kind.{admits};
 ghost use Rattle.registers.specs.Ends.{ends_refusal};
 ghost use Rattle.registers.specs.Fault.{first_cause, refusal};
 ghost use Rattle.registers.specs.Meaning.{end_causes, entry_causes, possible};
@@ -31,8 +32,8 @@ pub fn judge_entry<C: Cost>(
     to: Format,
     cost: C,
 ) -> Result<(), RegisterFault>
-    ensures fine { is_ok result ≡ (possible size from to && C.Cost.algebra.admits (C.Cost.value cost)) }
-    ensures told { refusal result ≡ first_cause (entry_causes size from to (C.Cost.algebra.admits (C.Cost.value cost))) }
+    ensures fine { is_ok result ≡ (possible size from to && admits C.Cost cost) }
+    ensures told { refusal result ≡ first_cause (entry_causes size from to (admits C.Cost cost)) }
 {
     judge_ends(size, from, to)?;
     if cost.admitted() {

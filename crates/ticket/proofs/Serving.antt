@@ -3,17 +3,19 @@ use Rattle.std.proofs.Common.{◌≡◌, ℕ, ◌≤◌, true, leb, List, [], �
 use Rattle.std.proofs.lemmas.List.{take-append-drop}
 use Rattle.std.proofs.lemmas.Slice.{drop-append-drop}
 use Rattle.std.proofs.lemmas.Bool.{and_parts, and_from, not-false, ltb-false, leb-true}
+use Rattle.costs.specs.declared.Cost.{Ghosts as Kind}
 use Rattle.costs.specs.Algebra.{Algebra}
-use Rattle.registers.specs.Meaning.{Meaning, meant}
+use Rattle.registers.specs.Meaning.{Meaning, least_formats, meant, most_formats}
 use Rattle.lent.specs.Lent.{begun, nearest_size, size_fits}
 use Rattle.lent.specs.List.{entries_fit, list_fits}
 use Rattle.lent.specs.declared.list.Entry.{Entry}
-use Rattle.walks.specs.declared.cells.Cell.{Cell}
+use Rattle.bay.specs.declared.cells.Cell.{Cell}
 use Rattle.lines.specs.declared.line.Read.{Read}
 use Rattle.registers.specs.Fault.{first_cause}
-use Rattle.ticket.specs.Answers.{Common, LinesAnswer}
+use Rattle.ticket.specs.Answers.{Contents, LinesAnswer}
 use Rattle.ticket.specs.Faults.{Told}
-use Rattle.ticket.specs.Said.{Said, adds, bay_causes, ticket_entries, in_front, Through, Stops, Completes}
+use Rattle.bay.specs.Buffers.{in_front}
+use Rattle.ticket.specs.Said.{Said, adds, bay_causes, ticket_entries, Through, Stops, Completes}
 use Rattle.ticket.specs.declared.fault.Refusal.{Refusal}
 use Rattle.ticket.proofs.Taking.{none_holds}
 
@@ -22,15 +24,15 @@ pub front_is : {X : Type 0} (n : ℕ) (new old : List X) → length (take n new)
 front_is n new old long beyond =
     sym (take-append-drop n new) ∙ ap (λ t. take n new ++ t) beyond ∙ ap (λ k. take n new ++ drop k old) (sym long)
 
-module _ (A : Algebra) {C : Type 0} (value : C → A.Value) (cost_of : ℤ → C) (text : List ℕ) where
-  through_append : (s : Said A.Value) (from : ℕ) (lines : List Read) (place : ℕ) (then : Said A.Value) (more : List Read) (end : ℕ) (last : Said A.Value) →
-      Through A value cost_of text s from lines place then → Through A value cost_of text then place more end last → Through A value cost_of text s from (lines ++ more) end last
+module _ {C : Type 0} (K : Kind C) (cost_of : ℤ → C) (text : List ℕ) where
+  through_append : (s : Said K) (from : ℕ) (lines : List Read) (place : ℕ) (then : Said K) (more : List Read) (end : ℕ) (last : Said K) →
+      Through K cost_of text s from lines place then → Through K cost_of text then place more end last → Through K cost_of text s from (lines ++ more) end last
   through_append s from [] place then more end last t u =
-      subst (λ x. Through A value cost_of text x from more end last) (sym t.1) (subst (λ x. Through A value cost_of text then x more end last) (sym t.0) u)
-  through_append s from (l ∷ lines) place then more end last t u = (t.0, t.1, through_append (adds A value cost_of s l.line) l.end lines place then more end last t.2 u)
+      subst (λ x. Through K cost_of text x from more end last) (sym t.1) (subst (λ x. Through K cost_of text then x more end last) (sym t.0) u)
+  through_append s from (l ∷ lines) place then more end last t u = (t.0, t.1, through_append (adds K cost_of s l.line) l.end lines place then more end last t.2 u)
 
-  module _ (s : Said A.Value) (from : ℕ) (lines : List Read) (place : ℕ) (then : Said A.Value) (through : Through A value cost_of text s from lines place then) where
-    pub stops_after : (t : Told) → Stops A value cost_of text then place t → Stops A value cost_of text s from t
+  module _ (s : Said K) (from : ℕ) (lines : List Read) (place : ℕ) (then : Said K) (through : Through K cost_of text s from lines place then) where
+    pub stops_after : (t : Told) → Stops K cost_of text then place t → Stops K cost_of text s from t
     stops_after t r = record {
       lines = lines ++ r.lines;
       place = r.place;
@@ -39,7 +41,7 @@ module _ (A : Algebra) {C : Type 0} (value : C → A.Value) (cost_of : ℤ → C
       refused = r.refused;
     }
 
-    pub completes_after : (end : ℕ) (last : Said A.Value) → Completes A value cost_of text then place end last → Completes A value cost_of text s from end last
+    pub completes_after : (end : ℕ) (last : Said K) → Completes K cost_of text then place end last → Completes K cost_of text s from end last
     completes_after end last r = record {
       lines = lines ++ r.lines;
       through = through_append s from lines place then r.lines end last through r.through;
@@ -54,30 +56,28 @@ bay_fits n entries e =
     let none = none_holds (bay_causes n entries) e in
     (not-false (size_fits n) none.0, ltb-false entries ticket_entries none.1.0)
 
-pub size_few : (n : ℕ) → size_fits n ≡ true → (2 ≤ n) × (n ≤ 64)
-size_few n e = let both = and_parts (leb 2 n) (leb n 64) e in (leb-true 2 n both.0, leb-true n 64 both.1)
+pub size_few : (n : ℕ) → size_fits n ≡ true → (least_formats ≤ n) × (n ≤ most_formats)
+size_few n e = let both = and_parts (leb least_formats n) (leb n most_formats) e in (leb-true least_formats n both.0, leb-true n most_formats both.1)
 
 pub nearest_is : (n : ℕ) → size_fits n ≡ true → nearest_size n ≡ n
 nearest_is n e = omega (arith, (size_few n e).0, (size_few n e).1)
 
-module _ (A : Algebra) {C : Type 0} (value : C → A.Value) where
+module _ {C : Type 0} (K : Kind C) where
   -- a list that was just made in so many entries
   pub list_begins : (n : ℕ) (part : List (Option (Entry C))) (m : Meaning C) → size_fits n ≡ true → length part ≡ ticket_entries → m ≡ begun n (list_fits n (length part)) (length part) →
-      meant value m ≡ begun n true ticket_entries
+      meant K m ≡ begun n true ticket_entries
   list_begins n part m fits long e =
-      ap (meant value) e
-      ∙ ap (λ k. meant value (begun n (list_fits n k) k)) long
-      ∙ ap (λ b. meant value (begun n b ticket_entries)) (and_from (size_fits n) (entries_fit ticket_entries) fits refl)
+      ap (meant K) e
+      ∙ ap (λ k. meant K (begun n (list_fits n k) k)) long
+      ∙ ap (λ b. meant K (begun n b ticket_entries)) (and_from (size_fits n) (entries_fit ticket_entries) fits refl)
 
 -- what the lines are answered has nothing to do with the entries
-pub lines_with_entries : (A : Algebra) {C : Type 0} (value : C → A.Value) (cost_of : ℤ → C) (text : List ℕ) (from : ℕ) (entries entries' : List (Option (Entry C))) (table table' : List (Cell C)) (costs costs' : List C) (c c' : Common) (answer : Result ℕ Refusal)
-    (s then : Said A.Value) → s ≡ then →
-    LinesAnswer A value cost_of text from (record { entries = []; table = table; costs = costs }) (record { entries = []; table = table'; costs = costs' }) c c' answer s →
-    LinesAnswer A value cost_of text from (record { entries = entries; table = table; costs = costs }) (record { entries = entries'; table = table'; costs = costs' }) c c' answer then
-lines_with_entries A value cost_of text from entries entries' table table' costs costs' c c' answer s then e lines =
-    subst (LinesAnswer A value cost_of text from (record { entries = entries; table = table; costs = costs }) (record { entries = entries'; table = table'; costs = costs' }) c c' answer) e
+pub lines_with_entries : {C : Type 0} (K : Kind C) (cost_of : ℤ → C) (text : List ℕ) (from : ℕ) (entries entries' : List (Option (Entry C))) (m m' : Contents C) (answer : Result ℕ Refusal) (s then : Said K) → s ≡ then →
+    LinesAnswer K cost_of text from m m' answer s → LinesAnswer K cost_of text from (record m { entries = entries }) (record m' { entries = entries' }) answer then
+lines_with_entries K cost_of text from entries entries' m m' answer s then e lines =
+    subst (LinesAnswer K cost_of text from (record m { entries = entries }) (record m' { entries = entries' }) answer) e
     (elim lines [
-      | inl r ↦ inl (record { refusal = r.refusal; stops = r.stops; answers = r.answers; untouched = record { table = r.untouched.table; costs = r.untouched.costs; chains = r.untouched.chains } })
+      | inl r ↦ inl (record { refusal = r.refusal; stops = r.stops; answers = r.answers; untouched = r.untouched })
       | inr r ↦ inr (record {
         place = r.place;
         then = r.then;
@@ -93,5 +93,5 @@ lines_with_entries A value cost_of text from entries entries' table table' costs
     ])
 
 -- entries beyond those that a ticket uses
-pub entries_beyond : {X : Type 0} (front entries : List X) → length front ≡ 512 → drop ticket_entries (front ++ drop 512 entries) ≡ drop ticket_entries entries
-entries_beyond front entries long = drop-append-drop 512 entries front 512 (omega arith) long
+pub entries_beyond : {X : Type 0} (front entries : List X) → length front ≡ ticket_entries → drop ticket_entries (front ++ drop ticket_entries entries) ≡ drop ticket_entries entries
+entries_beyond front entries long = drop-append-drop ticket_entries entries front ticket_entries (omega arith) long

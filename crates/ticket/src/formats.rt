@@ -1,5 +1,6 @@
 // The format lines of a ticket: each format has its number and its code.
 ghost use Rattle.std.specs.Prelude.{◌≡◌, ◌<◌, ◌≤◌, length};
+ghost use Rattle.registers.specs.Meaning.{most_formats};
 ghost use Rattle.ticket.specs.Said.{used};
 ghost use Rattle.ticket.specs.Steps.{FormatAnswer, FormatsAnswer};
 
@@ -29,7 +30,7 @@ fn read_format(
     k: usize,
     codes: &mut [FourCc; MOST_CODES],
 ) -> Result<usize, Refusal>
-    requires { k < 64 }
+    requires { k < most_formats }
     ensures { FormatAnswer text.now from k codes.old codes.new result }
 {
     let read = read_line(text, from, Stage::Formats)?;
@@ -53,10 +54,10 @@ pub(crate) fn read_formats<C: TicketCost>(
     n: usize,
     codes: &mut [FourCc; MOST_CODES],
 ) -> Result<usize, Refusal>
-    requires { n ≤ 64 }
-    ensures long { length codes.new ≡ 64 }
+    requires { n ≤ most_formats }
+    ensures long { length codes.new ≡ most_formats }
     ensures as_long { length codes.new ≡ length codes.old }
-    ensures answer { FormatsAnswer C.Cost.algebra C.Cost.value C.TicketCost.reads text.now from n codes.old codes.new result }
+    ensures answer { FormatsAnswer C.Cost C.reads text.now from n codes.old codes.new result }
 {
     let mut place = from;
     for k in 0..n {

@@ -11,4 +11,4 @@ pub use bay::{CHAIN_BYTES, Ends, MOST_LEGS};
 pub use fault::{Refusal, TicketFault};
 pub use formats::{FourCc, MOST_CODES};
 pub use kinds::TicketCost;
-pub use serve::{Granted, MOST_BYTES, Shared, Sheets, TICKET_ENTRIES, route_ticket};
+pub use serve::{BayLine, MOST_BYTES, Memory, TICKET_ENTRIES, read_bay, route_ticket};

@@ -1,7 +1,6 @@
 // The lines of cards and legs, and the end line: a card is entered in the bay, and a leg is booked.
 ghost use Rattle.std.specs.Prelude.{◌≡◌, [], length, if◌then◌else◌, nat_eq};
-ghost use Rattle.bay.specs.Bays.{plain};
-ghost use Rattle.bay.specs.Legs.{booked};
+ghost use Rattle.bay.specs.Bays.{legs, plain};
 ghost use Rattle.lines.specs.declared.line.Stage.TheVariants.{Cards, Legs};
 ghost use Rattle.ticket.specs.Steps.{OrderAnswer, OrdersAnswer};
 
@@ -33,8 +32,9 @@ fn read_order<C: TicketCost, R: Register<Cost = C>>(
     bay: &mut Bay<R>,
     ends: &mut [Ends; MOST_LEGS],
 ) -> Result<Option<Progress>, Refusal>
-    requires { at.legs ≡ length (booked bay.old.legs) }
-    ensures { OrderAnswer C.Cost.algebra C.Cost.value C.TicketCost.reads text.now at.place (plain C.Cost.algebra C.Cost.value R.Register.holds bay.old) (plain C.Cost.algebra C.Cost.value R.Register.holds bay.new) ends.old ends.new result }
+    requires { at.legs ≡ length (legs bay.old) }
+    ensures { OrderAnswer C.Cost C.reads text.now at.place (plain bay.old) (plain bay.new)
+        ends.old ends.new result }
 {
     let Progress { place, legs } = at;
     let read = read_line(text, place, order_stage(legs))?;
@@ -70,9 +70,10 @@ pub(crate) fn read_orders<C: TicketCost, R: Register<Cost = C>>(
     bay: &mut Bay<R>,
     ends: &mut [Ends; MOST_LEGS],
 ) -> Result<usize, Refusal>
-    requires { booked bay.old.legs ≡ [] }
+    requires { legs bay.old ≡ [] }
     ensures as_long { length ends.new ≡ length ends.old }
-    ensures answer { OrdersAnswer C.Cost.algebra C.Cost.value C.TicketCost.reads text.now from (plain C.Cost.algebra C.Cost.value R.Register.holds bay.old) (plain C.Cost.algebra C.Cost.value R.Register.holds bay.new) ends.old ends.new result }
+    ensures answer { OrdersAnswer C.Cost C.reads text.now from (plain bay.old) (plain bay.new)
+        ends.old ends.new result }
 {
     let mut at = Progress {
         place: from,

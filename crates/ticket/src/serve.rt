@@ -1,9 +1,9 @@
 // A ticket, from its text to its answer.
-ghost use Rattle.std.specs.Prelude.{◌≡◌, ◌≤◌, []};
+ghost use Rattle.std.specs.Prelude.{◌≡◌, ◌≤◌, [], length};
 ghost use Rattle.registers.specs.Fault.{first_cause};
-ghost use Rattle.bay.specs.Bays.{plain};
-ghost use Rattle.bay.specs.Legs.{booked};
-ghost use Rattle.ticket.specs.Answers.{LinesAnswer, KindAnswer, TicketAnswer, of_lists, of_sheets, of_shared, of_memory, SameSheets, SameShared};
+ghost use Rattle.registers.specs.Meaning.{most_formats};
+ghost use Rattle.bay.specs.Bays.{legs, plain};
+ghost use Rattle.ticket.specs.Answers.{BayAnswer, KindAnswer, LinesAnswer, SameMemory, contents, lent_contents};
 ghost use Rattle.ticket.specs.Faults.{told_of};
 ghost use Rattle.ticket.specs.Said.{said, bay_causes};
 
@@ -11,12 +11,11 @@ use crate::fault::{Refusal, TicketFault, at_byte};
 use crate::formats::{FourCc, MOST_CODES, read_formats};
 use crate::kinds::TicketCost;
 use crate::orders::read_orders;
-use bay::{Bay, BayFault, Ends, MOST_LEGS};
-use costs::{Cost, Delay, Depth};
+use bay::{Bay, BayFault, Cell, Ends, MOST_LEGS};
+use costs::Cost;
 use lent::{Entry, List};
 use lines::{Kind, Line, Stage, read_line};
 use registers::{LEAST_FORMATS, MOST_FORMATS, Register, RegisterFault};
-use walks::Cell;
 
 // The cards of a ticket lie in so many entries.
 pub const TICKET_ENTRIES: usize = 512;
@@ -27,29 +26,62 @@ pub const MOST_BYTES: usize = 32_768;
 // Where the number of formats stands in a ticket.
 const SIZE_PLACE: usize = 11;
 
-// The memory that is lent for the tickets of one kind: entries for the cards, and the table and the cost sheet of route.
-#[derive(Drop)]
-pub struct Sheets<'a, C> {
+// The first line of a ticket: its kind, its number of formats, and where the lines after it begin.
+#[derive(Clone, Copy, Debug, PartialEq, Eq)]
+pub struct BayLine {
+    pub kind: Kind,
+    pub size: usize,
+    pub end: usize,
+}
+
+// The memory that is lent for a ticket, once its kind is known: entries for the cards, the table and the sheets of route, and
+// places for the codes of the formats and the ends of the legs.
+pub struct Memory<'a, C> {
     pub entries: &'a mut [Option<Entry<C>>],
     pub table: &'a mut [Cell<C>],
     pub costs: &'a mut [C],
-}
-
-// The memory that is lent for the tickets of every kind: the chain sheet of route, and places for the codes of the formats
-// and the ends of the legs.
-#[derive(Drop)]
-pub struct Shared<'a> {
     pub chains: &'a mut [u8],
     pub codes: &'a mut [FourCc; MOST_CODES],
     pub ends: &'a mut [Ends; MOST_LEGS],
 }
 
-// What a granted ticket is answered: its kind, its number of formats and its number of legs.
-#[derive(Clone, Copy, Debug, PartialEq, Eq)]
-pub struct Granted {
-    pub kind: Kind,
-    pub size: usize,
-    pub legs: usize,
+// When it ends, the memory is given back as it then is.
+impl<C> Drop for Memory<'_, C> {
+    fn drop(self)
+        ensures entries { self.exit.0.now ≡ self.entry.entries.now }
+        ensures table { self.exit.1.0.now ≡ self.entry.table.now }
+        ensures costs { self.exit.1.1.0.now ≡ self.entry.costs.now }
+        ensures chains { self.exit.1.1.1.0.now ≡ self.entry.chains.now }
+        ensures codes { self.exit.1.1.1.1.0.now ≡ self.entry.codes.now }
+        ensures ends { self.exit.1.1.1.1.1.0.now ≡ self.entry.ends.now }
+    {
+        let Memory {
+            entries: _,
+            table: _,
+            costs: _,
+            chains: _,
+            codes: _,
+            ends: _,
+        } = self;
+    }
+}
+
+// Reads the first line of a ticket, or refuses the ticket for its length or at the byte.
+pub fn read_bay(text: &[u8]) -> Result<BayLine, Refusal>
+    ensures { BayAnswer text.now result }
+{
+    if text.len() > MOST_BYTES {
+        return Err(TicketFault::TooLong.at(MOST_BYTES));
+    }
+    let read = read_line(text, 0, Stage::Start)?;
+    let Line::Bay { kind, size } = read.line else {
+        return Err(TicketFault::Unfit.at(0));
+    };
+    Ok(BayLine {
+        kind,
+        size,
+        end: read.end,
+    })
 }
 
 // That a bay of `n` formats can be made with so many entries, or the first cause why not.
@@ -66,7 +98,8 @@ fn judge_bay(n: usize, entries: usize) -> Result<(), Refusal>
     Ok(())
 }
 
-// The lines after the bay line, on a bay of `n` formats without legs, and the route at their end: the number of legs.
+// The lines after the bay line, on a bay of `n` formats without legs, and the route at their end: the number of legs. The memory
+// is lent place by place, since the bay holds the entries meanwhile.
 fn route_lines<C: TicketCost, R: Register<Cost = C>>(
     text: &[u8],
     from: usize,
@@ -74,60 +107,47 @@ fn route_lines<C: TicketCost, R: Register<Cost = C>>(
     bay: &mut Bay<R>,
     table: &mut [Cell<C>],
     costs: &mut [C],
-    shared: &mut Shared<'_>,
+    chains: &mut [u8],
+    codes: &mut [FourCc; MOST_CODES],
+    ends: &mut [Ends; MOST_LEGS],
 ) -> Result<usize, Refusal>
-    requires size { (R.Register.holds bay.old.register).size ≡ n }
-    requires few { n ≤ 64 }
-    requires legs { booked bay.old.legs ≡ [] }
-    ensures answer { LinesAnswer C.Cost.algebra C.Cost.value C.TicketCost.reads text.now from (of_lists [] table.old costs.old) (of_lists [] table.new costs.new) (of_shared shared.old) (of_shared shared.new) result (said [] (plain C.Cost.algebra C.Cost.value R.Register.holds bay.old)) }
-    ensures shared { SameShared shared.old shared.new }
+    requires size { (R.holds bay.old.register).size ≡ n }
+    requires few { n ≤ most_formats }
+    requires legs { legs bay.old ≡ [] }
+    ensures answer { let before = lent_contents table.old costs.old chains.old codes.old ends.old in
+        let after = lent_contents table.new costs.new chains.new codes.new ends.new in
+        LinesAnswer C.Cost C.reads text.now from before after result (said [] (plain bay.old)) }
+    ensures codes { length codes.new ≡ length codes.old }
+    ensures ends { length ends.new ≡ length ends.old }
 {
-    let orders = read_formats::<C>(text, from, n, shared.codes)?;
-    let end = read_orders(text, orders, bay, shared.ends)?;
-    at_byte(bay.route(table, costs, shared.chains), end)
+    let orders = read_formats::<C>(text, from, n, codes)?;
+    let end = read_orders(text, orders, bay, ends)?;
+    at_byte(bay.route(table, costs, chains), end)
 }
 
-// A ticket of one kind, after its bay line: the number of legs.
-fn serve<C: TicketCost>(
+// Routes a ticket whose first line was read, or refuses it with the byte. It works in the memory that is lent for it, and
+// answers the number of legs.
+pub fn route_ticket<C: TicketCost>(
     text: &[u8],
-    from: usize,
-    n: usize,
-    sheets: &mut Sheets<'_, C>,
-    shared: &mut Shared<'_>,
+    bay: BayLine,
+    memory: &mut Memory<'_, C>,
 ) -> Result<usize, Refusal>
-    ensures answer { KindAnswer C.Cost.algebra C.Cost.value C.TicketCost.reads text.now from (of_sheets sheets.old) (of_sheets sheets.new) (of_shared shared.old) (of_shared shared.new) result n }
-    ensures sheets { SameSheets sheets.old sheets.new }
-    ensures shared { SameShared shared.old shared.new }
+    ensures answer { KindAnswer C.Cost C.reads text.now bay.end (contents memory.old)
+        (contents memory.new) result bay.size }
+    ensures same { SameMemory memory.old memory.new }
 {
-    judge_bay(n, sheets.entries.len())?;
-    let entries = &mut *sheets.entries;
-    let mut bay = Bay::new(List::new(n, &mut entries[0..TICKET_ENTRIES]));
-    route_lines(text, from, n, &mut bay, sheets.table, sheets.costs, shared)
-}
-
-// Routes a ticket, or refuses it with the byte. It works in the memory lent for its kind, and in that for every kind.
-pub fn route_ticket(
-    text: &[u8],
-    delay: &mut Sheets<'_, Delay>,
-    depth: &mut Sheets<'_, Depth>,
-    shared: &mut Shared<'_>,
-) -> Result<Granted, Refusal>
-    ensures answer { TicketAnswer text.now (of_memory delay.old depth.old shared.old) (of_memory delay.new depth.new shared.new) result }
-    ensures delay { SameSheets delay.old delay.new }
-    ensures depth { SameSheets depth.old depth.new }
-    ensures shared { SameShared shared.old shared.new }
-{
-    if text.len() > MOST_BYTES {
-        return Err(TicketFault::TooLong.at(MOST_BYTES));
-    }
-    let read = read_line(text, 0, Stage::Start)?;
-    let Line::Bay { kind, size } = read.line else {
-        return Err(TicketFault::Unfit.at(0));
-    };
-    // The memory of each kind has a type of its own, so the kind is matched where it is known.
-    let legs = match kind {
-        Kind::Delay => serve(text, read.end, size, delay, shared)?,
-        Kind::Depth => serve(text, read.end, size, depth, shared)?,
-    };
-    Ok(Granted { kind, size, legs })
+    judge_bay(bay.size, memory.entries.len())?;
+    let entries = &mut *memory.entries;
+    let mut made = Bay::new(List::new(bay.size, &mut entries[0..TICKET_ENTRIES]));
+    route_lines(
+        text,
+        bay.end,
+        bay.size,
+        &mut made,
+        memory.table,
+        memory.costs,
+        memory.chains,
+        memory.codes,
+        memory.ends,
+    )
 }

@@ -1,12 +1,11 @@
 // Cases that are known to be hard, and refusals of the bay.
 use crate::kind::Kind;
 use crate::route::{Card, Job, route_both};
-use bay::{Bay, BayFault, Ends, Leg, Note};
+use bay::{Bay, BayFault, Cell, Ends, Leg, Note};
 use costs::{Delay, Depth};
 use lent::Matrix;
 use registers::Register;
 use std::alloc::{AllocError, Global};
-use walks::Cell;
 
 fn card(from: usize, to: usize, number: i32) -> Card {
     Card { from, to, number }

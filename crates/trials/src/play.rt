@@ -1,7 +1,7 @@
 // Plays pseudo-random calls on a register, and prints every tenth with a checksum over all so far.
 use crate::dice::Dice;
 use costs::Delay;
-use registers::{Bar, Code, Register, RegisterFault, Reversed};
+use registers::{Bars, Code, Over, Register, RegisterFault, Turned};
 use std::alloc::{AllocError, Global};
 use std::fmt;
 
@@ -118,13 +118,16 @@ pub fn play_all<R: Register<Cost = Delay> + Drop>(
     dice: &mut Dice,
 ) -> anyhow::Result<()> {
     play(rt, name, &mut register, dice, 400)?;
-    let mut barred = Bar::new(register, 4);
+    let mut barred = Over::new(register, Bars { bits: 4 });
     play(rt, "under a bar", &mut barred, dice, 150)?;
-    let mut piled = Bar::new(barred, 9_223_372_036_854_775_825);
+    let far = Bars {
+        bits: 9_223_372_036_854_775_825,
+    };
+    let mut piled = Over::new(barred, far);
     play(rt, "under two bars", &mut piled, dice, 100)?;
-    let mut turned = Reversed::new(piled);
+    let mut turned = Over::new(piled, Turned);
     play(rt, "turned round", &mut turned, dice, 100)?;
-    let mut topped = Bar::new(turned, 8);
+    let mut topped = Over::new(turned, Bars { bits: 8 });
     play(rt, "turned round under a bar", &mut topped, dice, 50)?;
     let mut bare = topped.into_below().into_below().into_below().into_below();
     play(rt, "bare again", &mut bare, dice, 50)

@@ -1,10 +1,9 @@
 // Routes legs over the same cards in a matrix and in a list, and checks what the bay wrote against the cards.
 use crate::kind::Kind;
-use bay::{Bay, BayFault, Ends, Leg, Note};
+use bay::{Answer, Bay, Call, Cell, Ends, Leg, Note, ROW};
 use lent::{Entry, List, Matrix};
-use registers::{Register, Reversed};
+use registers::{Over, Register, Turned};
 use std::alloc::{AllocError, Global};
-use walks::{Cell, ROW};
 
 #[derive(Clone, Copy)]
 pub struct Card {
@@ -236,16 +235,31 @@ fn print_legs<C: Kind>(rt: &HostRuntime, job: &Job, sheets: &Sheets<C>) -> anyho
     Ok(())
 }
 
-// Enters the cards and books the legs; whether all is granted.
-fn set_up<C: Kind, R: Register<Cost = C>>(bay: &mut Bay<R>, job: &Job) -> bool {
-    job.cards.iter().all(|card| bay
-        .enter(card.from, card.to, C::of_number(card.number))
-        .is_ok())
-        && job
-            .legs
-            .iter()
-            .enumerate()
-            .all(|(k, leg)| bay.book(leg.from, leg.to) == Ok(k))
+// Enters the cards and books the legs; whether all is granted. Calls are given as values here.
+fn set_up<C: Kind, R: Register<Cost = C>>(
+    bay: &mut Bay<R>,
+    job: &Job,
+    sheets: &mut Sheets<C>,
+) -> bool {
+    let Sheets {
+        table,
+        costs,
+        chains,
+    } = sheets;
+    job.cards.iter().all(|card| {
+        let call = Call::Enter {
+            from: card.from,
+            to: card.to,
+            cost: C::of_number(card.number),
+        };
+        bay.call(call, table, costs, chains) == Answer::Entered
+    }) && job.legs.iter().enumerate().all(|(k, leg)| {
+        let call = Call::Book {
+            from: leg.from,
+            to: leg.to,
+        };
+        bay.call(call, table, costs, chains) == Answer::Booked(k)
+    })
 }
 
 // Does a job over an empty register, and prints what came of it, or `bad`.
@@ -255,15 +269,22 @@ fn settle<C: Kind, R: Register<Cost = C> + Drop>(
     job: &Job,
 ) -> anyhow::Result<()> {
     let mut bay = Bay::new(register);
-    let ready = set_up(&mut bay, job);
     let mut sheets = Sheets::<C>::new(rt.alloc(), job)?;
-    let answer = bay.route(&mut sheets.table, &mut sheets.costs, &mut sheets.chains);
-    let noted = ready && is_noted(&bay, job.legs, &sheets, answer.is_err());
+    let ready = set_up(&mut bay, job, &mut sheets);
+    let answer = bay.call(
+        Call::Route,
+        &mut sheets.table,
+        &mut sheets.costs,
+        &mut sheets.chains,
+    );
+    let looped = answer == Answer::Looped;
+    let noted = ready && is_noted(&bay, job.legs, &sheets, looped);
     let register = bay.into_register();
     match answer {
-        Ok(count) if noted && count == job.legs.len() && is_granted(&register, job.legs, &sheets) =>
+        Answer::Routed(count)
+            if noted && count == job.legs.len() && is_granted(&register, job.legs, &sheets) =>
             print_legs(rt, job, &sheets)?,
-        Err(BayFault::Loop) if noted && is_loop(&register, &sheets) => println!(rt; " loop")?,
+        Answer::Looped if noted && is_loop(&register, &sheets) => println!(rt; " loop")?,
         _ => println!(rt; " bad")?,
     }
     Ok(())
@@ -285,5 +306,5 @@ pub fn route_reversed<C: Kind>(rt: &HostRuntime, name: &str, job: &Job) -> anyho
     let heap = rt.alloc();
     let mut entries: Vec<Option<Entry<C>>> = vec![in heap; None; job.cards.len().max(1)]?;
     print!(rt; "{name}, from the outputs:")?;
-    settle::<C, _>(rt, Reversed::new(List::new(job.n, &mut entries)), job)
+    settle::<C, _>(rt, Over::new(List::new(job.n, &mut entries), Turned), job)
 }

@@ -1,7 +1,7 @@
 // A ticket in memory that may be too short for it.
+use bay::Cell;
 use costs::Delay;
-use ticket::{Ends, MOST_CODES, MOST_LEGS, Shared, Sheets, route_ticket};
-use walks::Cell;
+use ticket::{Ends, MOST_CODES, MOST_LEGS, Memory, read_bay, route_ticket};
 
 const TICKET: &[u8] =
     b"(bay delay 2)\n(format 0 UYVY)\n(format 1 v210)\n(card (0 1) 4)\n(leg (0 1))\n(leg (1 0))\n(end)\n";
@@ -30,26 +30,18 @@ fn answer_in(rt: &HostRuntime, what: &str, room: Room) -> anyhow::Result<()> {
     let mut table = vec![in heap; Cell::empty(); room.cells]?;
     let mut costs = vec![in heap; Delay { lines: 7 }; room.costs]?;
     let mut chains = vec![in heap; 9; room.bytes]?;
-    let answer = route_ticket(
-        TICKET,
-        &mut Sheets {
-            entries: entries.as_mut_slice(),
-            table: table.as_mut_slice(),
-            costs: costs.as_mut_slice(),
-        },
-        &mut Sheets {
-            entries: &mut [],
-            table: &mut [],
-            costs: &mut [],
-        },
-        &mut Shared {
-            chains: chains.as_mut_slice(),
-            codes: &mut [[0; 4]; MOST_CODES],
-            ends: &mut [Ends { from: 0, to: 0 }; MOST_LEGS],
-        },
-    );
+    let mut memory = Memory {
+        entries: entries.as_mut_slice(),
+        table: table.as_mut_slice(),
+        costs: costs.as_mut_slice(),
+        chains: chains.as_mut_slice(),
+        codes: &mut [[0; 4]; MOST_CODES],
+        ends: &mut [Ends { from: 0, to: 0 }; MOST_LEGS],
+    };
+    let answer = read_bay(TICKET).and_then(|bay| route_ticket(TICKET, bay, &mut memory));
+    drop(memory);
     match answer {
-        Ok(granted) => println!(rt; "{what}: {} legs", granted.legs)?,
+        Ok(legs) => println!(rt; "{what}: {legs} legs")?,
         Err(refusal) => println!(rt; "{what}: {} at {}", refusal.fault.code(), refusal.byte)?,
     }
     let as_found = costs.iter().all(|cost| cost.lines == 7) && chains.iter().all(|byte| *byte == 9);

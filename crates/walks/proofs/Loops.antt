@@ -4,7 +4,7 @@ use Rattle.std.proofs.Common.{◌≡◌, ℕ, zero, suc, ◌<◌, ◌≤◌, ◌
 use Rattle.std.proofs.lemmas.Bool.{cases_order}
 use Rattle.costs.specs.Algebra.{Algebra, Lawful}
 use Rattle.walks.specs.Walk.{Below, LowLeast, LowWalkCosts, GainsAt}
-use Rattle.walks.specs.Theorems.{Sound, Found, LookFinds, NoHiddenLoop}
+use Rattle.walks.specs.Theorems.{Sound, LookHits, LookFinds, NoHiddenLoop}
 use Rattle.walks.proofs.Runs.{Runs, to_runs}
 use Rattle.walks.proofs.Least.{AtMost, Covers, at_most_trans, at_most_joined, drop_front, least_serves}
 use Rattle.walks.proofs.Fold.{Low, Calm, Passes, to_low, of_low, calm_at, low_mono, low_join, pass}
@@ -34,7 +34,7 @@ module _ {A : Algebra} (L : Lawful A) (card : ℕ → ℕ → Option A.Value) wh
           at_most_trans L A.unit y x (subst (λ z. AtMost A A.unit z) (L.comm b a ∙ sym f) (here (A.join b a) (low_join L card h h j h b a m v u))) d
       go (inr (inr m)) lower p = absurd (omega arith)
 
-  found_gains : (h k : ℕ) → k < h → Found A card h k → GainsAt A card h
+  found_gains : (h k : ℕ) → k < h → LookHits A card h k → GainsAt A card h
   found_gains h k l (a, b, u, v, under) =
       let w = of_low L card h h h (A.join a b) (low_join L card h h k h a b l (low_mono L card k h h k a (omega arith) (to_low L card k h k a u.0)) (low_mono L card k h k h b (omega arith) (to_low L card k k h b v.0))) in
       (w.0, w.1, w.2, subst (λ x. A.Under x A.unit) (sym w.3) under)
@@ -42,7 +42,7 @@ module _ {A : Algebra} (L : Lawful A) (card : ℕ → ℕ → Option A.Value) wh
   -- a closed walk at h with inner formats below j avoids the highest of them, or is at least the least way there and back
   not_found_calm : (n : ℕ) → Sound A n card → (h : ℕ) → ((k : ℕ) → k < h → GainsAt A card k → ⊥) →
       ((k : ℕ) → k < h → (o : Option A.Value) × LowLeast A card k h k o) → ((k : ℕ) → k < h → (o : Option A.Value) × LowLeast A card k k h o) →
-      ((k : ℕ) → k < h → Found A card h k → ⊥) → (j : ℕ) → j ≤ h → (x : A.Value) → Low A card j h h x → AtMost A A.unit x
+      ((k : ℕ) → k < h → LookHits A card h k → ⊥) → (j : ℕ) → j ≤ h → (x : A.Value) → Low A card j h h x → AtMost A A.unit x
   not_found_calm n sound h calm out back none zero l x ([], b, r) = absurd ((sound.inside h h x r).2 refl)
   not_found_calm n sound h calm out back none zero l x (m ∷ ms, b, r) = absurd (omega arith)
   not_found_calm n sound h calm out back none (suc j) l x w =

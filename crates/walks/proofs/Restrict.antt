@@ -6,8 +6,8 @@ use Rattle.std.proofs.lemmas.Bool.{false≢true, ltb-true, leb-true, eqb-false, 
 use Rattle.costs.specs.Algebra.{Algebra, Lawful}
 use Rattle.registers.specs.Meaning.{Meaning, pair, standing}
 use Rattle.walks.specs.Walk.{Below, Gains}
-use Rattle.walks.specs.Eliminated.{Calmed}
-use Rattle.walks.specs.Solved.{upto}
+use Rattle.walks.specs.Levels.{NoLoopBelow}
+use Rattle.walks.specs.Levels.{upto}
 use Rattle.walks.proofs.Runs.{Runs, to_runs}
 use Rattle.walks.proofs.Loops.{no_low_loop}
 
@@ -64,7 +64,7 @@ module _ {A : Algebra} (L : Lawful A) (high : ℕ) (card : ℕ → ℕ → Optio
   runs_upto s (m ∷ ms) x l below (a, b, c, r, e) = (a, b, upto_is high card s m l (omega (arith, below.0)) ∙ c, runs_upto m ms b below.0 below.1 r, e)
 
   -- the cards up to a format lead out of lower ones only, so a closed walk over them is low
-  pub upto_calm : Calmed A card high → Gains A (upto high card) → ⊥
+  pub upto_calm : NoLoopBelow A card high → Gains A (upto high card) → ⊥
   upto_calm calm (h, ms, w, under) =
       let r = upto_runs h ms h _ (to_runs L (upto high card) h ms h w) in
       no_low_loop L card high calm h r.0 _ (ms, r.1, r.2) under

@@ -4,7 +4,7 @@ use Rattle.std.proofs.lemmas.Bool.{cases_lt}
 use Rattle.costs.specs.Algebra.{Algebra, Lawful}
 use Rattle.walks.specs.Walk.{path, Below, Absent, Distinct, LeastOf, WalkCosts, LowWalkCosts, Least, LowLeast, GainsAt}
 use Rattle.walks.specs.Theorems.{Sound}
-use Rattle.walks.specs.Eliminated.{ByWay, Calmed}
+use Rattle.walks.specs.Levels.{ByWay, NoLoopBelow}
 use Rattle.walks.proofs.Runs.{Runs, to_runs, of_runs, runs_join, runs_split}
 use Rattle.walks.proofs.Least.{AtMost, Serves, Covers, at_most_self, at_most_trans, at_most_joined, drop_back, least_has, least_serves, least_made, least_cover}
 use Rattle.walks.proofs.Fold.{Low, Calm, Passes, to_low, of_low, to_least_low, of_least_low, calm_at, low_mono, low_join, pass}
@@ -59,7 +59,7 @@ module _ {A : Algebra} (L : Lawful A) (card : ℕ → ℕ → Option A.Value) wh
   covered_by : (P : A.Value → Type 0) (x y : A.Value) → AtMost A x y → Covers A P x → Covers A P y
   covered_by P x y u c = (c.0, c.1, at_most_trans L c.0 x y c.2 u)
 
-  module _ (n : ℕ) (calm : Calmed A card n) where
+  module _ (n : ℕ) (calm : NoLoopBelow A card n) where
     -- The second stage: v is above the goal. The formats between them are folded in, one after the other.
     pub second_cell : (v goal : ℕ) (o : Option A.Value) (to on : ℕ → Option A.Value) (r : Option A.Value) → goal < v → v < n → LowLeast A card goal v goal o →
         ((j : ℕ) → goal < j → j < v → LowLeast A card j v j (to j) × LowLeast A card j j goal (on j)) →

@@ -1,11 +1,3 @@
 pub mod Walk
 pub mod Theorems
-pub mod Price
-pub mod Cells
-pub mod Tracing
-pub mod Aims
-pub mod Sheet
-pub mod Eliminated
-pub mod Pivots
-pub mod Solved
-pub mod Cases
+pub mod Levels

@@ -25,14 +25,14 @@ module _ (A : Algebra) where
       LowLeast A card h s t o → LowLeast A card h s h p → LowLeast A card h h t q → LeastOf A (Either A o p q) r → LowLeast A card (suc h) s t r
 
   -- a look at h finds the lower format k: the least ways from h to k and back undercut the unit together
-  abbrev pub Found : (ℕ → ℕ → Option A.Value) → ℕ → ℕ → Type 0
-  Found card h k = (a : A.Value) × (b : A.Value) × LowLeast A card k h k (Some a) × LowLeast A card k k h (Some b) × A.Under (A.join a b) A.unit
+  abbrev pub LookHits : (ℕ → ℕ → Option A.Value) → ℕ → ℕ → Type 0
+  LookHits card h k = (a : A.Value) × (b : A.Value) × LowLeast A card k h k (Some a) × LowLeast A card k k h (Some b) × A.Under (A.join a b) A.unit
 
   -- A look at h finds a closed walk through lower formats exactly where there is one, if no lower look found any.
   abbrev pub LookFinds : Type 0
   LookFinds = (n : ℕ) (card : ℕ → ℕ → Option A.Value) → Sound A n card → (h : ℕ) → ((k : ℕ) → k < h → GainsAt A card k → ⊥) →
       ((k : ℕ) → k < h → (o : Option A.Value) × LowLeast A card k h k o) → ((k : ℕ) → k < h → (o : Option A.Value) × LowLeast A card k k h o) →
-      (((k : ℕ) × (k < h) × Found card h k) → GainsAt A card h) × (((k : ℕ) → k < h → Found card h k → ⊥) → GainsAt A card h → ⊥)
+      (((k : ℕ) × (k < h) × LookHits card h k) → GainsAt A card h) × (((k : ℕ) → k < h → LookHits card h k → ⊥) → GainsAt A card h → ⊥)
 
   -- No closed walk escapes the looks: one that undercuts the unit, wherever it lies, gives one at its highest format.
   abbrev pub NoHiddenLoop : Type 0

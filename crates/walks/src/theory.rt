@@ -5,10 +5,10 @@ use costs::Cost;
 
 // Does nothing; its contract is the theory that the search rests on.
 pub fn theorems<C: Cost>()
-    ensures fold_step { FoldStep C.Cost.algebra }
-    ensures look_finds { LookFinds C.Cost.algebra }
-    ensures no_hidden_loop { NoHiddenLoop C.Cost.algebra }
-    ensures cut_to_chain { CutToChain C.Cost.algebra }
-    ensures least_is_near { LeastIsNear C.Cost.algebra }
-    ensures tree_reaches { TreeReaches C.Cost.algebra }
+    ensures fold_step { FoldStep C.algebra }
+    ensures look_finds { LookFinds C.algebra }
+    ensures no_hidden_loop { NoHiddenLoop C.algebra }
+    ensures cut_to_chain { CutToChain C.algebra }
+    ensures least_is_near { LeastIsNear C.algebra }
+    ensures tree_reaches { TreeReaches C.algebra }
 {}

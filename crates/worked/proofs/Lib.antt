@@ -1,3 +1,7 @@
-mod SampleLines
-mod SampleRoute
-mod SampleAnswer
+pub mod CaseProofs
+pub mod Chains
+pub mod LegProofs
+pub mod RouteProofs
+pub mod SampleLines
+pub mod SampleRoute
+pub mod SampleAnswer

@@ -1,8 +1,7 @@
 -- The lines of the sample ticket pass, and make a bay of three cards and two legs.
-use Rattle.std.proofs.Common.{ℕ, List, [], ◌∷◌, ℤ, pos, negsuc, codes, refl, arith}
+use Rattle.std.proofs.Common.{ℕ, List, [], ◌∷◌, pos, negsuc, codes, refl, arith}
 use Rattle.std.specs.Fmt.{digits}
-use Rattle.costs.specs.Delay.{delay}
-use Rattle.costs.specs.declared.delay.Delay.{Delay}
+use Rattle.costs.specs.Kinds.{delays}
 use Rattle.lines.specs.Grammar.{IsRead}
 use Rattle.lines.specs.declared.line.Kind.TheVariants as kind
 use Rattle.lines.specs.declared.line.Line.{Line}
@@ -24,23 +23,20 @@ unfolding digits
 bay_is_read = record { allowed = omega arith; whole = refl; ends = refl; number = refl; code = refl }
 
 -- what the lines say one after the other
-abbrev value : Delay → ℤ
-value d = d.lines
-
-abbrev after_lines : List Line → Said ℤ → Said ℤ
+abbrev after_lines : List Line → Said delays → Said delays
 after_lines [] s = s
-after_lines (l ∷ ls) s = after_lines ls (adds delay value delay_of s l)
+after_lines (l ∷ ls) s = after_lines ls (adds delays delay_of s l)
 
 abbrev body : List Line
 body =
     Format 0 (codes "UYVY") ∷ Format 1 (codes "v210") ∷ Format 2 (codes "NV12") ∷
     Card 0 1 (pos 4) ∷ Card 0 2 (pos 6) ∷ Card 2 1 (negsuc 2) ∷ Leg 0 1 ∷ Leg 1 0 ∷ []
 
-abbrev pub sample_said : Said ℤ
+abbrev pub sample_said : Said delays
 sample_said = after_lines body (begins 3)
 
 -- each line passes where the one before it ends
-pub sample_completes : Completes delay value delay_of sample_ticket (begins 3) 14 132 sample_said
+pub sample_completes : Completes delays delay_of sample_ticket (begins 3) 14 132 sample_said
 unfolding digits
 sample_completes = record {
   lines =

@@ -1,5 +1,7 @@
--- All worked cases: those of walks, of their least costs and of their gains, and what the sample ticket is answered.
-use Rattle.walks.specs.Cases.{WorkedCases}
+-- All worked cases: those of walks, of their least costs and of their gains, what routes are answered, and what the sample
+-- ticket is answered.
+use Rattle.worked.specs.Walks.{WorkedCases}
+use Rattle.worked.specs.Routes.{RouteCases}
 use Rattle.worked.specs.Sample.{SampleAnswered}
 
 pub record AllCases : Type 0 where
@@ -7,3 +9,5 @@ pub record AllCases : Type 0 where
   pub sample_ticket : SampleAnswered
   -- what walks, their least costs and their gains are on a few small sets of cards and on the house table
   pub walks : WorkedCases
+  -- what every route over these cards is answered, whatever the memory and the notes hold
+  pub routes : RouteCases

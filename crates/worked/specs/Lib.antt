@@ -1,2 +1,4 @@
 pub mod Sample
+pub mod Walks
+pub mod Routes
 pub mod Cases

@@ -1,7 +1,6 @@
 -- The sample ticket: its text, and the text of its answer.
 use Rattle.std.specs.Prelude.{◌≡◌, ℕ, ◌≤◌, List, [], ◌∷◌, ◌++◌, length, drop, Ok, codes, Result}
-use Rattle.ticket.specs.Answers.{Memory}
-use Rattle.listing.specs.Answered.{Answered}
+use Rattle.listing.specs.Answered.{Listed}
 use Rattle.listing.specs.Text.{pieces}
 use Rattle.listing.specs.declared.answer.PlaceShort.{PlaceShort}
 
@@ -28,16 +27,7 @@ sample_listing = pieces (
     line (codes "(leg 1 (1 0) none)") ∷
     line (codes "(end)") ∷ [])
 
--- the memory for delay will do for three formats and two legs
-pub record Room (m : Memory) : Type 0 where
-  pub entries : 512 ≤ length m.delay.entries
-  pub table : 9 ≤ length m.delay.table
-  pub costs : 2 ≤ length m.delay.costs
-  pub chains : 132 ≤ length m.common.chains
-  pub codes : length m.common.codes ≡ 64
-  pub ends : length m.common.ends ≡ 32
-
--- Whatever the memory and the place hold, the sample's listing is written, and nothing else is.
+-- Whatever the place holds, if it has room for the listing, the listing is written there, and nothing else is.
 abbrev pub SampleAnswered : Type 0
-SampleAnswered = (m m' : Memory) (place place' : List ℕ) (r : Result ℕ PlaceShort) → Room m → length sample_listing ≤ length place → Answered sample_ticket m m' place place' r →
+SampleAnswered = (place place' : List ℕ) (r : Result ℕ PlaceShort) → length sample_listing ≤ length place → Listed sample_ticket place place' r →
     (r ≡ Ok (length sample_listing)) × (place' ≡ sample_listing ++ drop (length sample_listing) place)

@@ -1,6 +1,7 @@
-use Rattle.walks.proofs.CaseProofs.{worked_cases}
+use Rattle.worked.proofs.CaseProofs.{worked_cases}
+use Rattle.worked.proofs.RouteProofs.{worked_routes}
 use Rattle.worked.proofs.SampleAnswer.{sample_answered}
 use Rattle.worked.proofs.worked_cases.Goals as goal
 
 pub returns : goal.returns
-returns c = record { sample_ticket = sample_answered; walks = worked_cases }
+returns c = record { sample_ticket = sample_answered; walks = worked_cases; routes = worked_routes }

@@ -1,6 +1,5 @@
-use Rattle.std.proofs.Common.{refl}
-use Rattle.bay.proofs.BothWays.{from_outputs}
+use Rattle.bay.proofs.BothWays.{from_outputs, reversed_is_reversal}
 use Rattle.bay.proofs.law.from_outputs.Goals as goal
 
 pub returns : goal.returns
-returns g c = record { faces = λ m legs others a b. refl; outputs = from_outputs g.met.C.Cost.lawful g.C.Cost.value }
+returns g c = record { reversed = reversed_is_reversal g.C.Cost; outputs = from_outputs g.C.Cost g.met.C.Cost.lawful }

@@ -3,12 +3,12 @@ use Rattle.std.proofs.lemmas.Result.{err_from_is_err_and}
 use Rattle.registers.specs.Fault.{register_code}
 use Rattle.registers.specs.Meaning.{meant}
 use Rattle.lent.specs.Grid.{grid}
-use Rattle.lent.specs.Lent.{admitted_by}
+use Rattle.costs.specs.Kind.{admits}
 use Rattle.lent.specs.List.{or_else}
 use Rattle.bay.specs.Bays.{plain}
 use Rattle.bay.specs.Faults.{bay_code}
 use Rattle.bay.specs.Plain.{ends}
-use Rattle.direct.specs.Cards.{over, booking_cause}
+use Rattle.direct.specs.Cards.{bay_over, booking_cause}
 use Rattle.direct.proofs.cards.route_cards.Goals as goal
 
 pub returns-in_err-check : goal.returns-in_err-check
@@ -16,22 +16,21 @@ returns-in_err-check g c =
     let q = err_from_is_err_and c.from_residual.result c.from_residual.ensures.1 in
     rw (q.1, q.2) (inl (record {
       cause = register_code c.in_err-check.field-0.0;
-      holds = ap (λ o. or_else o (booking_cause (over g.C.Cost.algebra g.C.Cost.value c.args.n c.args.cards.now) c.args.legs.now)) (sym c.in_err-check.ensures.answer);
+      holds = ap (λ o. or_else o (booking_cause (bay_over g.C.Cost c.args.n c.args.cards.now c.args.legs.now) c.args.legs.now)) (sym c.in_err-check.ensures.answer);
       answers = refl;
       same = refl;
     }))
 
 pub returns-in_err-book_all : goal.returns-in_err-book_all
 returns-in_err-book_all g c =
-    let A = g.C.Cost.algebra in
-    let value = g.C.Cost.value in
-    let register = ap (λ r. meant value (grid (admitted_by A value) r.n r.costs.now)) c.new-bay.ensures.register ∙ ap (meant value) c.new.ensures.holds in
-    let made : plain A value (λ r. grid (admitted_by A value) r.n r.costs.now) c.new-bay.result ≡ over A value c.args.n c.args.cards.now = λ i. record { register = register i; legs = ap (map ends) c.new-bay.ensures.legs i } in
+    let K = g.C.Cost in
+    let register = ap (λ r. meant K (grid (admits K) r.n r.costs.now)) c.new-bay.ensures.register ∙ ap (meant K) c.new.ensures.holds in
+    let made : plain c.new-bay.result ≡ bay_over K c.args.n c.args.cards.now c.args.legs.now = λ i. record { register = register i; legs = ap (map ends) c.new-bay.ensures.legs i } in
     let q = err_from_is_err_and c.from_residual-in_err-book_all.result c.from_residual-in_err-book_all.ensures.1 in
     rw (q.1, q.2) (inl (record {
       cause = bay_code c.in_err-book_all.field-0.0;
       holds =
-          ap (λ o. or_else o (booking_cause (over A value c.args.n c.args.cards.now) c.args.legs.now)) (sym c.in_ok-check.ensures.answer)
+          ap (λ o. or_else o (booking_cause (bay_over K c.args.n c.args.cards.now c.args.legs.now) c.args.legs.now)) (sym c.in_ok-check.ensures.answer)
           ∙ ap (λ p. booking_cause p c.args.legs.now) (sym made) ∙ sym c.in_err-book_all.ensures.answers;
       answers = refl;
       same = refl;

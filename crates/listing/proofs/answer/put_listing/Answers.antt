@@ -1,6 +1,7 @@
 use Rattle.std.proofs.Common.{◌≡◌, ℕ, ◌+◌, min, List, ◌++◌, map, get_or, take, ℤ, pos, sym, ap, ◌∙◌, add-one, arith, w32, SFits, rules, length-take}
 use Rattle.std.proofs.lemmas.Int.{to_z-of_z}
 use Rattle.std.proofs.lemmas.List.{get_or-take}
+use Rattle.bay.specs.Limits.{most_legs}
 use Rattle.bay.specs.Routes.{no_ends}
 use Rattle.bay.specs.declared.legs.Ends.{Ends}
 use Rattle.listing.specs.Text.{legs_text, leg_text, formats_of}
@@ -14,7 +15,7 @@ legs_more fourccs ends numbers chains k = sym (ap (legs_text fourccs ends number
 pub loop-k-preserved : goal.loop-k-preserved
 loop-k-preserved g c =
     let fits : SFits w32 c.number_at-cost.result = search rules in
-    let numbers = map g.C.TicketCost.writes c.args.costs.now in
+    let numbers = map g.C.TicketCost.writes c.args.view.now.costs.now in
     let ends = c.args.view.now.ends.now in
     let leg = get_or (take c.min.result c.args.view.now.ends.now) c.loop-k.k no_ends in
     writes_is (legs_more c.args.view.now.codes.now ends numbers c.args.view.now.chains.now c.loop-k.k)
@@ -27,6 +28,6 @@ loop-k-preserved g c =
 
 pub returns : goal.returns
 returns g c =
-    let all : c.loop-k.k ≡ min c.args.legs 32 = omega (arith, c.loop-k.auto.k-end, c.loop-k-test.false, c.min.ensures) in
-    writes_both (writes_is (ap (legs_text c.args.view.now.codes.now c.args.view.now.ends.now (map g.C.TicketCost.writes c.args.costs.now) c.args.view.now.chains.now) all) c.loop-k.invariant)
+    let all : c.loop-k.k ≡ min c.args.legs most_legs = omega (arith, c.loop-k.auto.k-end, c.loop-k-test.false, c.min.ensures) in
+    writes_both (writes_is (ap (legs_text c.args.view.now.codes.now c.args.view.now.ends.now (map g.C.TicketCost.writes c.args.view.now.costs.now) c.args.view.now.chains.now) all) c.loop-k.invariant)
     (writes_both c.put.ensures c.put-2.ensures)

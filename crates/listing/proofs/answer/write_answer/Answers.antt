@@ -1,19 +1,19 @@
-use Rattle.std.proofs.Common.{◌≡◌, ◌<◌, [], ◌++◌, length, drop, refl, ◌∙◌, arith, rules}
+use Rattle.std.proofs.Common.{map, ◌≡◌, ◌<◌, [], ◌++◌, length, drop, refl, ◌∙◌, arith, rules}
 use Rattle.listing.specs.Output.{most_length}
 use Rattle.listing.specs.Text.{answer_text}
 use Rattle.listing.proofs.Writing.{printed}
 use Rattle.listing.proofs.answer.write_answer.Goals as goal
 
 pub returns-then-length-place : goal.returns-then-length-place
-returns-then-length-place c = (
+returns-then-length-place g c = (
   c.finish-length.ensures.count ∙ (c.put_answer.ensures.adds [] [] c.new-count.ensures.holds).count,
   c.if-length-place.true,
   refl,
 )
 
 pub returns : goal.returns
-returns c =
-    let text = answer_text c.args.view.codes.now c.args.view.ends.now c.args.delays.now c.args.depths.now c.args.view.chains.now c.args.answer.now in
+returns g c =
+    let text = answer_text c.args.view.codes.now c.args.view.ends.now (map g.C.TicketCost.writes c.args.view.costs.now) c.args.view.chains.now c.args.answer.now in
     let counted = c.finish-length.ensures.count ∙ (c.put_answer.ensures.adds [] [] c.new-count.ensures.holds).count in
     let short : length c.args.place.now < most_length = omega arith in
     let done = printed c.args.place.now text c.put_answer-2.new.out c.finish-length.result (c.put_answer-2.ensures.adds c.args.place.now [] c.new-out.ensures.holds) counted (omega (arith, c.if-length-place.false)) short in

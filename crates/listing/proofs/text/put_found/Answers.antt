@@ -2,11 +2,11 @@ use Rattle.std.proofs.Common.{◌≡◌, ℕ, List, [], ◌∷◌, length, ℤ, 
 use Rattle.std.proofs.lemmas.Int.{to_z-of_z}
 use Rattle.std.proofs.lemmas.Bool.{eqb-false}
 use Rattle.std.specs.Fmt.{signed_decimal}
-use Rattle.listing.specs.Text.{found_text, codes_text, pieces}
+use Rattle.listing.specs.Text.{found_text, fourccs_text, pieces}
 use Rattle.listing.proofs.Writing.{writes_both, writes_is}
 use Rattle.listing.proofs.text.put_found.Goals as goal
 
-some_found : (fourccs : List (List ℕ)) (cost : ℤ) (formats : List ℕ) → (length formats ≡ 0 → ⊥) → pieces (signed_decimal cost ∷ codes " (" ∷ codes_text fourccs formats ∷ codes ")" ∷ []) ≡ found_text fourccs cost formats
+some_found : (fourccs : List (List ℕ)) (cost : ℤ) (formats : List ℕ) → (length formats ≡ 0 → ⊥) → pieces (signed_decimal cost ∷ codes " (" ∷ fourccs_text fourccs formats ∷ codes ")" ∷ []) ≡ found_text fourccs cost formats
 some_found fourccs cost [] n = absurd (n refl)
 some_found fourccs cost (f ∷ fs) n = refl
 

@@ -11,25 +11,25 @@ pub returns-in_err-next-clause-answer : goal.returns-in_err-next-clause-answer
 returns-in_err-next-clause-answer g c =
     let q = err_from_is_err_and c.from_residual.result c.from_residual.ensures.1 in
     rw (q.1, q.2)
-    (orders_stop g.C.Cost.algebra g.C.Cost.value g.C.TicketCost.reads c.args.text.now c.args.from
-    (plain g.C.Cost.algebra g.C.Cost.value g.R.Register.holds c.args.bay.now) (plain g.C.Cost.algebra g.C.Cost.value g.R.Register.holds c.loop-next.bay) c.args.ends.now c.loop-next.ends c.loop-next.at c.loop-next.invariant
+    (orders_stop g.C.Cost g.C.TicketCost.reads c.args.text.now c.args.from
+    (plain c.args.bay.now) (plain c.loop-next.bay) c.args.ends.now c.loop-next.ends c.loop-next.at c.loop-next.invariant
     (told_by c.in_err-next.field-0.0) c.in_err-next.ensures)
 
 taken_here : (g : Over) (c : goal.In-Some g) →
-    OrderTaken g.C.Cost.algebra g.C.Cost.value g.C.TicketCost.reads c.args.text.now c.loop-next.at.place (plain g.C.Cost.algebra g.C.Cost.value g.R.Register.holds c.loop-next.bay)
-    (plain g.C.Cost.algebra g.C.Cost.value g.R.Register.holds c.read_order.new.bay) c.loop-next.ends c.read_order.new.ends c.in-Some.next
+    OrderTaken g.C.Cost g.C.TicketCost.reads c.args.text.now c.loop-next.at.place (plain c.loop-next.bay)
+    (plain c.read_order.new.bay) c.loop-next.ends c.read_order.new.ends c.in-Some.next
 taken_here g c =
-    subst (λ o. OrderAnswer g.C.Cost.algebra g.C.Cost.value g.C.TicketCost.reads c.args.text.now c.loop-next.at.place (plain g.C.Cost.algebra g.C.Cost.value g.R.Register.holds c.loop-next.bay)
-    (plain g.C.Cost.algebra g.C.Cost.value g.R.Register.holds c.read_order.new.bay) c.loop-next.ends c.read_order.new.ends (Ok o)) c.in-Some.is c.in_ok-next.ensures
+    subst (λ o. OrderAnswer g.C.Cost g.C.TicketCost.reads c.args.text.now c.loop-next.at.place (plain c.loop-next.bay)
+    (plain c.read_order.new.bay) c.loop-next.ends c.read_order.new.ends (Ok o)) c.in-Some.is c.in_ok-next.ensures
 
 pub loop-next-smaller : goal.loop-next-smaller
 loop-next-smaller g c =
-    let on = order_advances g.C.Cost.algebra g.C.Cost.value g.C.TicketCost.reads c.args.text.now c.loop-next.at.place (plain g.C.Cost.algebra g.C.Cost.value g.R.Register.holds c.loop-next.bay)
-    (plain g.C.Cost.algebra g.C.Cost.value g.R.Register.holds c.read_order.new.bay) c.loop-next.ends c.read_order.new.ends c.in-Some.next (taken_here g c) in
+    let on = order_advances g.C.Cost g.C.TicketCost.reads c.args.text.now c.loop-next.at.place (plain c.loop-next.bay)
+    (plain c.read_order.new.bay) c.loop-next.ends c.read_order.new.ends c.in-Some.next (taken_here g c) in
     omega (arith, on.0, on.1)
 
 pub loop-next-preserved : goal.loop-next-preserved
 loop-next-preserved g c =
-    orders_more g.C.Cost.algebra g.C.Cost.value g.C.TicketCost.reads c.args.text.now c.args.from
-    (plain g.C.Cost.algebra g.C.Cost.value g.R.Register.holds c.args.bay.now) (plain g.C.Cost.algebra g.C.Cost.value g.R.Register.holds c.loop-next.bay) c.args.ends.now c.loop-next.ends c.loop-next.at c.loop-next.invariant
-    (plain g.C.Cost.algebra g.C.Cost.value g.R.Register.holds c.read_order.new.bay) c.read_order.new.ends c.in-Some.next c.told-ends (taken_here g c)
+    orders_more g.C.Cost g.C.TicketCost.reads c.args.text.now c.args.from
+    (plain c.args.bay.now) (plain c.loop-next.bay) c.args.ends.now c.loop-next.ends c.loop-next.at c.loop-next.invariant
+    (plain c.read_order.new.bay) c.read_order.new.ends c.in-Some.next c.told-ends (taken_here g c)

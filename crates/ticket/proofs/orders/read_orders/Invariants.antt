@@ -6,8 +6,8 @@ use Rattle.ticket.proofs.orders.read_orders.Given as goal
 
 abbrev pub invariant-loop-next : goal.invariant-loop-next
 invariant-loop-next g l =
-    OrdersTaken g.C.Cost.algebra g.C.Cost.value g.C.TicketCost.reads l.text l.from
-    (plain g.C.Cost.algebra g.C.Cost.value g.R.Register.holds l.initial.bay) (plain g.C.Cost.algebra g.C.Cost.value g.R.Register.holds l.bay) l.initial.ends l.ends l.at
+    OrdersTaken g.C.Cost g.C.TicketCost.reads l.text l.from
+    (plain l.initial.bay) (plain l.bay) l.initial.ends l.ends l.at
 
 abbrev pub decreases-loop-next : goal.decreases-loop-next
 decreases-loop-next g l = length l.text - l.at.place

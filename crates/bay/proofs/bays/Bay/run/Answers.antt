@@ -1,35 +1,39 @@
--- The law grows by one call and its answer each turn.
-use Rattle.std.proofs.Common.{◌≡◌, ◌<◌, length, vec_items, ap, inl, inr, arith}
-use Rattle.std.proofs.lemmas.Bool.{cases_lt, false≢true}
-use Rattle.bay.specs.Bays.{plain}
-use Rattle.bay.specs.Legs.{booked}
-use Rattle.bay.proofs.RunSteps.{run_begins, run_turn, run_unmade}
+-- Each turn makes one more call, in the next part of the sheets if it works in one.
+use Rattle.std.proofs.Common.{length, ◌∙◌, arith}
+use Rattle.bay.specs.Limits.{most_legs}
+use Rattle.bay.specs.Runs.{part_bytes}
+use Rattle.bay.proofs.RunSteps.{byte_of, part_room, parts_front, ran_all, ran_more, ran_none, run_room}
 use Rattle.bay.proofs.bays.Bay.run.Goals as goal
 
-pub loop-call-init : goal.loop-call-init
-loop-call-init g c =
-    let made = c.in-Ok.ensures in (
-      made.len,
-      made.capacity,
-      omega arith,
-      run_begins g.R.Cost.Cost.algebra g.R.Cost.Cost.value (plain g.R.Cost.Cost.algebra g.R.Cost.Cost.value g.R.Register.holds c.args.self.now) (record { legs = booked c.args.self.now.legs; table = c.args.table.now; costs = c.args.costs.now; chains = c.args.chains.now }) (vec_items c.in-Ok.answers) made.items,
-    )
+pub loop-i-init : goal.loop-i-init
+loop-i-init g c = ran_none _ _ _ _ _ _ _
 
-pub loop-call-preserved : goal.loop-call-preserved
-loop-call-preserved g c =
-    let pushed = c.push_reserved.ensures in
-    let inv = c.loop-call.invariant in (
-      omega (arith, pushed.len, inv.0),
-      omega (arith, pushed.capacity, inv.1),
-      omega arith,
-      run_turn g.R.Cost.Cost.algebra g.R.Cost.Cost.value (plain g.R.Cost.Cost.algebra g.R.Cost.Cost.value g.R.Register.holds c.args.self.now) (plain g.R.Cost.Cost.algebra g.R.Cost.Cost.value g.R.Register.holds c.loop-call.self) (plain g.R.Cost.Cost.algebra g.R.Cost.Cost.value g.R.Register.holds c.call.new.self)
-          (record { legs = booked c.args.self.now.legs; table = c.args.table.now; costs = c.args.costs.now; chains = c.args.chains.now }) (record { legs = booked c.loop-call.self.legs; table = c.loop-call.table; costs = c.loop-call.costs; chains = c.loop-call.chains }) (record { legs = booked c.call.new.self.legs; table = c.call.new.table; costs = c.call.new.costs; chains = c.call.new.chains }) c.args.calls.now c.loop-call.call-index (vec_items c.loop-call.answers) (vec_items c.push_reserved.new.self) c.call-item.result c.in-Ok-call.answer
-          c.loop-call-test.true c.call-item.is pushed.items c.loop-call.auto.costs c.loop-call.auto.chains inv.3 c.in-Ok-call.ensures,
-    )
+pub call_in_part-requires-clause-costs : goal.call_in_part-requires-clause-costs
+call_in_part-requires-clause-costs g c =
+    let room = run_room c.args.calls.now (length c.args.costs.now) (length c.args.chains.now) (length c.args.answers.now) c.in_ok-judge_run.ensures in
+    part_room c.args.calls.now c.loop-i.i c.loop-i.part c.index-calls-i.result most_legs (length c.loop-i.costs) c.loop-i.invariant.parts_are c.loop-i-test.true c.index-calls-i.is (omega (arith, room.costs, c.loop-i.auto.costs))
 
-pub returns-in_default : goal.returns-in_default
-returns-in_default g c =
-    let made = run_unmade g.R.Cost.Cost.algebra g.R.Cost.Cost.value (plain g.R.Cost.Cost.algebra g.R.Cost.Cost.value g.R.Register.holds c.args.self.now) (record { legs = booked c.args.self.now.legs; table = c.args.table.now; costs = c.args.costs.now; chains = c.args.chains.now }) c.args.calls.now c.new.result.items c.new.ensures.items in
-    let none : length c.new.result.items ≡ 0 = ap length c.new.ensures.items in
-    let some : 0 < length c.args.calls.now = elim (cases_lt 0 (length c.args.calls.now)) [ inl d ↦ d | inr d ↦ absurd (false≢true (c.in_default.ensures.succeeds (omega (arith, d)))) ] in
-    record { made = made; left = omega (arith, none, some); wants = inl none }
+pub call_in_part-requires-clause-chains : goal.call_in_part-requires-clause-chains
+call_in_part-requires-clause-chains g c =
+    let room = run_room c.args.calls.now (length c.args.costs.now) (length c.args.chains.now) (length c.args.answers.now) c.in_ok-judge_run.ensures in
+    part_room c.args.calls.now c.loop-i.i c.loop-i.part c.index-calls-i.result part_bytes (length c.loop-i.chains) c.loop-i.invariant.parts_are c.loop-i-test.true c.index-calls-i.is (omega (arith, room.chains, c.loop-i.auto.chains))
+
+pub overflow_add-part : goal.overflow_add-part
+overflow_add-part g c =
+    let room = run_room c.args.calls.now (length c.args.costs.now) (length c.args.chains.now) (length c.args.answers.now) c.in_ok-judge_run.ensures in
+    let front = parts_front c.args.calls.now c.loop-i.i c.index-calls-i.result c.loop-i-test.true c.index-calls-i.is in
+    let byte = c.from-part.ensures ∙ byte_of c.index-calls-i.result _ c.takes_part.ensures in
+    omega (arith, room.costs, front, byte, c.loop-i.invariant.parts_are)
+
+pub loop-i-preserved : goal.loop-i-preserved
+loop-i-preserved g c =
+    let room = run_room c.args.calls.now (length c.args.costs.now) (length c.args.chains.now) (length c.args.answers.now) c.in_ok-judge_run.ensures in
+    let byte = c.from-part.ensures ∙ byte_of c.index-calls-i.result _ c.takes_part.ensures in
+    ran_more _ _ _ _ _ _ _ c.loop-i.i _ _ _ _ _ _ _ _ _ _ _ _ _ _ _ byte c.loop-i-test.true c.index-calls-i.is room.answers c.loop-i.invariant c.call_in_part.ensures
+    (λ t. (
+      part_room c.args.calls.now c.loop-i.i c.loop-i.part c.index-calls-i.result most_legs (length c.loop-i.costs) c.loop-i.invariant.parts_are c.loop-i-test.true c.index-calls-i.is (omega (arith, room.costs, c.loop-i.auto.costs)) t,
+      part_room c.args.calls.now c.loop-i.i c.loop-i.part c.index-calls-i.result part_bytes (length c.loop-i.chains) c.loop-i.invariant.parts_are c.loop-i-test.true c.index-calls-i.is (omega (arith, room.chains, c.loop-i.auto.chains)) t,
+    ))
+
+pub returns-clause-ran : goal.returns-clause-ran
+returns-clause-ran g c = ran_all _ _ _ _ _ _ _ c.loop-i.i _ _ _ _ _ _ _ (omega arith) c.loop-i.invariant

@@ -1,14 +1,8 @@
-use Rattle.std.proofs.Common.{◌≡◌, ◌≤◌, length, take, vec_items, vec_len, vec_capacity}
-use Rattle.bay.specs.Bays.{plain}
-use Rattle.bay.specs.Legs.{booked}
-use Rattle.bay.specs.Runs.{RunDone}
+-- The calls so far were made, each with its answer and its part of the sheets.
+use Rattle.bay.specs.Bays.{legs, plain}
+use Rattle.bay.proofs.RunSteps.{RanTo}
 use Rattle.bay.proofs.bays.Bay.run.Given as goal
 
-abbrev pub invariant-loop-call : goal.invariant-loop-call
-invariant-loop-call g l =
-    (vec_len l.answers ≡ l.call-index) × (length l.calls ≤ vec_capacity l.answers) × (l.call-index ≤ length l.calls) ×
-    RunDone g.R.Cost.Cost.algebra g.R.Cost.Cost.value
-    (plain g.R.Cost.Cost.algebra g.R.Cost.Cost.value g.R.Register.holds l.initial.self) (plain g.R.Cost.Cost.algebra g.R.Cost.Cost.value g.R.Register.holds l.self)
-    (record { legs = booked l.initial.self.legs; table = l.initial.table; costs = l.initial.costs; chains = l.initial.chains })
-    (record { legs = booked l.self.legs; table = l.table; costs = l.costs; chains = l.chains })
-    (take l.call-index l.calls) (vec_items l.answers)
+abbrev pub invariant-loop-i : goal.invariant-loop-i
+invariant-loop-i g l =
+    RanTo (plain l.fn.self) (legs l.fn.self) l.fn.table l.fn.costs l.fn.chains l.fn.answers l.calls l.i l.part (plain l.self) (legs l.self) l.table l.costs l.chains l.answers

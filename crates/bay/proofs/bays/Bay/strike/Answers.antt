@@ -7,6 +7,6 @@ use Rattle.bay.proofs.bays.Bay.strike.Goals as goal
 
 pub returns-clause-after : goal.returns-clause-after
 returns-clause-after g c =
-    let m = meant g.R.Cost.Cost.value (g.R.Register.holds c.args.self.now.register) in
+    let m = meant g.R.Cost.Cost (g.R.Register.holds c.args.self.now.register) in
     let legs = booked c.args.self.now.legs in
     after_granted _ _ _ _ (none_missing legs c.args.number (omega (arith, c.len.ensures.value))) (λ i. record { register = m; legs = (ap (map ends) c.remove.ensures ∙ ends_struck c.args.number legs) i })

@@ -1,7 +1,8 @@
 use Rattle.std.proofs.Common.{◌≤◌, length, take, sym, ap, ◌∙◌, subst, arith}
 use lib.ListN.{length-map}
 use Rattle.std.proofs.lemmas.List.{take_at}
-use Rattle.bay.specs.Legs.{booked, opened}
+use Rattle.bay.specs.Leg.{opened}
+use Rattle.bay.specs.Legs.{booked}
 use Rattle.bay.specs.Leg.{Apart}
 use Rattle.bay.proofs.LegSteps.{apart_opened, length_booked, length_opened}
 use Rattle.bay.proofs.legs.Legs.open_all.Goals as goal

@@ -1,6 +1,0 @@
-use Rattle.bay.specs.Legs.{booked}
-use Rattle.bay.proofs.LegSteps.{Started}
-use Rattle.bay.proofs.writing.Page.starts_to.Given as goal
-
-abbrev pub invariant-loop-leg : goal.invariant-loop-leg
-invariant-loop-leg g l = Started (booked l.self.legs.now) l.goal l.leg-index l.starts

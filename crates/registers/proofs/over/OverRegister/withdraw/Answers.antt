@@ -1,0 +1,8 @@
+use Rattle.std.proofs.Common.{sym}
+use Rattle.registers.proofs.Views.{viewed_after_withdraw}
+use Rattle.registers.proofs.over.OverRegister.withdraw.Goals as goal
+
+pub returns-clause-after : goal.returns-clause-after
+returns-clause-after g c =
+    let over = c.args.self.now in
+    viewed_after_withdraw g.R.Cost.Cost (g.V.View.shuts over.view) (g.V.View.turned over.view) (g.R.Register.holds over.below) (g.R.Register.holds c.withdraw.new.self) _ _ (sym c.if-shuts.ensures) _ (rw c.pair_below-from.ensures at c.withdraw.ensures.after)

@@ -1,7 +1,0 @@
-use Rattle.walks.proofs.Searches.{Turn}
-use Rattle.walks.proofs.trail.Aim.scan.Given as goal
-
-abbrev pub invariant-loop-to : goal.invariant-loop-to
-invariant-loop-to g l =
-    let kind = g.C.Cost in
-    Turn kind.algebra kind.value l.self.n l.self.cells.now l.self.goal l.ticks.sheet.now l.initial.search l.from l.to l.search
