@@ -13,7 +13,7 @@
 
 enum { CALLS = 50000, MOST = 66, LEGS = 34, CARDS = MOST * MOST, BYTES = LEGS * HURZELMA_ROW };
 
-/* What a call is handed, as numbers of either kind. */
+/* What a call is handed, as numbers of either kind, half lines or bits. */
 struct job {
     bool depth;
     size_t n, cards_length, legs_length, costs_length, chains_length;
@@ -45,7 +45,7 @@ static bool chance(int of) {
 
 static bool stands(const struct job *job, size_t s, size_t t) {
     int64_t cost = job->cards[s * job->n + t];
-    return s != t && (job->depth ? 1 <= cost && cost <= 16 : -1000000 <= cost && cost <= 1000000);
+    return s != t && (job->depth ? 1 <= cost && cost <= 16 : -2000000 <= cost && cost <= 2000000);
 }
 
 static int64_t sum(const struct job *job, int64_t a, int64_t b) {
@@ -193,8 +193,8 @@ static bool is_right(const struct job *job, uint32_t told, const struct left *be
 /* The calls. */
 
 static int32_t draw_cost(const struct job *job, int64_t low) {
-    if (chance(60)) return job->depth ? (int32_t)draw(0, 1) * 17 : (int32_t)draw(0, 1) * 2000002 - 1000001;
-    if (chance(200)) return job->depth ? 16 : (int32_t)draw(0, 1) * 2000000 - 1000000;
+    if (chance(60)) return job->depth ? (int32_t)draw(0, 1) * 17 : (int32_t)draw(0, 1) * 4000002 - 2000001;
+    if (chance(200)) return job->depth ? 16 : (int32_t)draw(0, 1) * 4000000 - 2000000;
     return job->depth ? (int32_t)draw(1, 16) : (int32_t)draw(low, 9);
 }
 
@@ -234,8 +234,8 @@ static uint32_t call(const struct job *job, struct left *left) {
     return told;
 }
 
-static const char ticket[] = "(bay delay 2)\n(format 0 UYVY)\n(format 1 v210)\n(card (0 1) -4)\n(leg (0 1))\n(leg (1 0))\n(end)\n";
-static const char answer[] = "(leg 0 (0 1) -4 (UYVY v210))\n(leg 1 (1 0) none)\n(end)\n";
+static const char ticket[] = "(bay delay 2)\n(format 0 UYVY)\n(format 1 v210)\n(card (0 1) -4.5)\n(leg (0 1))\n(leg (1 0))\n(end)\n";
+static const char answer[] = "(leg 0 (0 1) -4.5 (UYVY v210))\n(leg 1 (1 0) none)\n(end)\n";
 
 enum { WANTED = sizeof answer - 1 };
 

@@ -18,9 +18,9 @@ static void print_row(const uint8_t *row) {
     printf("\n");
 }
 
-/* Routes legs over three formats, and prints each leg's cost and chain, or the loop. */
-static void route(const int32_t cards[FORMATS * FORMATS], const struct hurzelma_leg legs[LEGS]) {
-    int32_t costs[LEGS] = {0};
+/* Routes legs over three formats, with delays in half lines, and prints each leg's cost and chain, or the loop. */
+static void route(const hurzelma_half_lines cards[FORMATS * FORMATS], const struct hurzelma_leg legs[LEGS]) {
+    hurzelma_half_lines costs[LEGS] = {0};
     uint8_t chains[LEGS * HURZELMA_ROW] = {0};
     uint32_t told = hurzelma_route_delay(FORMATS, cards, FORMATS * FORMATS, legs, LEGS, costs, LEGS, chains, sizeof chains);
     if (told != HURZELMA_GRANTED) {
@@ -36,7 +36,7 @@ static void route(const int32_t cards[FORMATS * FORMATS], const struct hurzelma_
         if (row[0] == 0) {
             printf("leg %zu: none\n", k);
         } else {
-            printf("leg %zu: %d by", k, (int)costs[k]);
+            printf("leg %zu: %d half lines by", k, (int)costs[k]);
             print_row(row);
         }
     }
@@ -58,12 +58,12 @@ int main(void) {
     enum { NO = HURZELMA_NO_DELAY };
     const struct hurzelma_leg legs[LEGS] = {{0, 1}, {1, 0}};
     const struct hurzelma_leg wrong[LEGS] = {{0, 1}, {2, 2}};
-    const int32_t cards[FORMATS * FORMATS] = {
-        NO, 4, 6,
+    const hurzelma_half_lines cards[FORMATS * FORMATS] = {
+        NO, 8, 12,
         NO, NO, NO,
-        NO, -3, NO,
+        NO, -5, NO,
     };
-    const int32_t gaining[FORMATS * FORMATS] = {
+    const hurzelma_half_lines gaining[FORMATS * FORMATS] = {
         NO, 2, NO,
         NO, NO, -4,
         1, NO, NO,

@@ -24,7 +24,13 @@ extern "C" {
  * with its leg's first format and ends with its last. */
 #define HURZELMA_ROW 66
 
-/* Numbers that are no card: a delay, and a depth. */
+/* A delay: so many half lines of video, below 0 where lines are given back. */
+typedef int32_t hurzelma_half_lines;
+
+/* A depth: so many bits kept of a sample. */
+typedef uint8_t hurzelma_bits;
+
+/* Numbers that are no card: one of half lines, and one of bits. */
 #define HURZELMA_NO_DELAY INT32_MIN
 #define HURZELMA_NO_DEPTH 0
 
@@ -51,7 +57,7 @@ struct hurzelma_leg {
  *   bay 15: the cost sheet (1) has fewer entries than there are legs, or the chain sheet (2) fewer bytes than their rows
  *   bay 24: more than 32 legs
  *   bay 25: no legs
- *   bay 26: a loop of cards undercuts the unit, which is 0 lines or 255 bits; row 0 then holds such a loop. Its first format comes
+ *   bay 26: a loop of cards undercuts the unit, which is 0 half lines or 255 bits; row 0 then holds such a loop. Its first format comes
  *           again at its end and counts twice, so the number is up to 65 */
 #define HURZELMA_NUMBER(told) (((told) >> 8) & 255u)
 #define HURZELMA_PART(told) ((told) & 255u)
@@ -59,22 +65,22 @@ struct hurzelma_leg {
 /* Finds a chain of least cost for every leg over the cards of n formats.
  *
  * cards: n * n numbers, row by row: that of the card from format s to format t stands at s * n + t. A number that no card may have
- * is no card, and so is every number from a format to itself. A delay is -1000000 to 1000000 lines, with the smaller one better
- * and delays added along a chain; a depth is 1 to 16 bits, with the larger one better and a chain keeping the smallest of its
- * cards.
+ * is no card, and so is every number from a format to itself. A card's delay is -2000000 to 2000000 half lines, a million lines
+ * each way, with the smaller one better and delays added along a chain; its depth is 1 to 16 bits, with the larger one better and
+ * a chain keeping the smallest of its cards.
  *
- * Granted, entry k of costs is the cost of leg k's chain, and row k of chains holds the chain. Where no chain leads from its
- * first format to its last, the row has the number 0, and the cost is 0 for delay and 255 for depth. Entries and rows beyond the
- * legs are as they were. Refused, all is as it was, but for row 0 after 26. The causes are judged in this order: 16, for each leg
- * 11, 12 and 24, then 25, 15, 26. */
-uint32_t hurzelma_route_delay(size_t n, const int32_t *cards, size_t cards_length,
+ * Granted, entry k of costs is the cost of leg k's chain, in half lines or in bits, and row k of chains holds the chain. Where no
+ * chain leads from its first format to its last, the row has the number 0, and the cost is 0 half lines or 255 bits. Entries and
+ * rows beyond the legs are as they were. Refused, all is as it was, but for row 0 after 26. The causes are judged in this order:
+ * 16, for each leg 11, 12 and 24, then 25, 15, 26. */
+uint32_t hurzelma_route_delay(size_t n, const hurzelma_half_lines *cards, size_t cards_length,
                               const struct hurzelma_leg *legs, size_t legs_length,
-                              int32_t *costs, size_t costs_length,
+                              hurzelma_half_lines *costs, size_t costs_length,
                               uint8_t *chains, size_t chains_length);
 
-uint32_t hurzelma_route_depth(size_t n, const uint8_t *cards, size_t cards_length,
+uint32_t hurzelma_route_depth(size_t n, const hurzelma_bits *cards, size_t cards_length,
                               const struct hurzelma_leg *legs, size_t legs_length,
-                              uint8_t *costs, size_t costs_length,
+                              hurzelma_bits *costs, size_t costs_length,
                               uint8_t *chains, size_t chains_length);
 
 /* What a ticket is told: its answer is written, or the place is too short for it. */
@@ -89,7 +95,8 @@ uint32_t hurzelma_route_depth(size_t n, const uint8_t *cards, size_t cards_lengt
 
 /* Writes the answer to a ticket, its listing or its refusal, from the start of the place, and its length into *length; the rest
  * of the place is as it was. A place that is too short is as it was, and *length is what the answer needs. Any bytes are
- * answered. docs/GRAMMAR.md says what a ticket looks like, and docs/RULES.md what its answer does. */
+ * answered. A ticket and its answer tell delays in lines, with .5 for half a line. docs/GRAMMAR.md says what a ticket looks like,
+ * and docs/RULES.md what its answer does. */
 uint32_t hurzelma_answer(const uint8_t *text, size_t text_length,
                          uint8_t *place, size_t place_length, size_t *length);
 

@@ -16,9 +16,10 @@ bytes come into a ticket by a set.
 import itertools
 import sys
 from collections.abc import Iterable, Iterator
+from fractions import Fraction
 from typing import BinaryIO
 
-from model import Pair, answers, ticket_text
+from model import Cost, Pair, answers, ticket_text
 
 SAMPLE = b"""(bay delay 3)
 (format 0 UYVY)
@@ -33,7 +34,8 @@ SAMPLE = b"""(bay delay 3)
 """
 
 CODES = ["UYVY", "v210", "NV12", "YUY2", "P010", "I420", "Y42B", "A444"]
-Entry = tuple[int, int, int]
+HALF = Fraction(1, 2)
+Entry = tuple[int, int, Cost]
 
 
 class Table:
@@ -192,6 +194,50 @@ def costs(table: Table) -> None:
         if cost == 16:
             table.sweep_in(b"16)", 0)
             table.sweep_in(b"16)", 1)
+
+
+def half_lines(table: Table) -> None:
+    """Delays with a point, in every form and at every bound; a point in every other number; and routes on odd numbers of half
+    lines."""
+    forms = [
+        "-0", "-01", "-0.", "-0.5", "-0.50", "-00.5", "-0.0", "-.5", "-", "-.", "--0.5", "+0.5", "0.", "0.5", "0.0", "0.6", "0.05",
+        "00.5", "01.5", ".5", ".", "5.", "5.6", "5.4", "5.50", "5.55", "5.5-", "5.-5", "5. 5", "5 .5", "5,5", "12.5", "12.5.5", "12..5",
+        "-12.5", "-1.5", "1.5 ", "9999999.5", "-9999999.5", "10000000", "10000000.5", "-10000000", "999999.5", "-999999.5",
+        "1000000", "-1000000", "1000000.5", "-1000000.5", "1000001", "-1000001",
+    ]  # fmt: skip
+    for form in forms:
+        if form not in ("1000000", "-1000000"):
+            table.alone(ticket("delay", 2, [(0, 1, 77)], [(0, 1)]).replace(b"77", form.encode()))
+        table.alone(ticket("depth", 2, [(0, 1, 77)], [(0, 1)]).replace(b"77", form.encode()))
+    # what may stand at each place of a delay, and the text's end there
+    for kind, front in itertools.product(["delay", "depth"], ["-", "-0", "0", "5", "-5", "-0.", "5.", "-0.5", "5.5", "9999999.5"]):
+        table.base(ticket(kind, 2, [(0, 1, 77)], [(0, 1)]).replace(b"77", front.encode() + b"_"))
+        table.cut(table.ticket.index(b"_"))
+        table.sweep_in(b"_", 0)
+    # a point in any other number
+    for old, form in itertools.product([b"delay 3", b"format 1", b"(card (0", b"(card (2 1", b"(leg (1", b"(leg (0 1"], [".5", "."]):
+        table.alone(SAMPLE.replace(old, old + form.encode(), 1))
+    table.alone(SAMPLE.replace(b"delay 3", b"delay .5"))
+    table.alone(SAMPLE.replace(b"delay 3", b"depth 3.5"))
+    # which cause is found first
+    for start, end in (2, 2), (0, 2), (1, 1):
+        table.alone(ticket("delay", 2, [(start, end, 1_000_000 + HALF)], [(0, 1)]))
+    # loops that gain half a line, and that gain nothing
+    for last in 1, 1 + HALF, 2:
+        table.alone(ticket("delay", 3, [(0, 1, 2 + HALF), (1, 2, -4), (2, 0, last)], [(0, 1), (1, 0), (2, 1)]))
+    for there, back in (HALF, -HALF), (-HALF, HALF), (-HALF, 0), (0, -HALF), (-1000000, 999999 + HALF), (1000000, -999999 - HALF):
+        table.alone(ticket("delay", 2, [(0, 1, there), (1, 0, back)], [(0, 1), (1, 0)]))
+    # half a line decides, and halves come to whole lines
+    table.alone(ticket("delay", 3, [(0, 1, 1), (1, 2, HALF), (0, 2, 1)], [(0, 2)]))
+    table.alone(ticket("delay", 3, [(0, 1, HALF), (1, 2, HALF), (0, 2, 1)], [(0, 2), (0, 2)]))
+    table.alone(ticket("delay", 3, [(0, 1, HALF), (1, 2, HALF), (0, 2, 1 + HALF)], [(0, 2)]))
+    table.alone(ticket("delay", 3, [(0, 1, HALF), (1, 2, -1), (0, 2, 0)], [(0, 2)]))
+    table.alone(ticket("delay", 3, [(0, 1, 3 + HALF), (1, 2, -3), (2, 0, -HALF)], [(0, 2), (2, 1), (1, 0)]))
+    table.alone(ticket("delay", 2, [(0, 1, 7), (0, 1, HALF), (1, 0, HALF), (1, 0, -HALF)], [(0, 1), (1, 0)]))
+    table.alone(ticket("delay", 8, [(a, b, cost * HALF) for a, b, cost in house()], [(4, 2), (4, 6)]))
+    order = shuffled(64)
+    for cost in 999999 + HALF, HALF - 999999, HALF, -HALF:
+        table.alone(ticket("delay", 64, [(a, b, cost) for a, b in zip(order, order[1:])], [(order[0], order[-1]), (order[1], order[-1])]))
 
 
 def ends(table: Table) -> None:
@@ -360,7 +406,7 @@ def sizes(table: Table) -> None:
 def write_table(out: BinaryIO) -> Table:
     table = Table(out)
     for part in (
-        sample, first_lines, numbers, lines, codes, costs, ends, many_legs, many_cards, long_chains, loops_and_ties, again, sizes,
+        sample, first_lines, numbers, lines, codes, costs, half_lines, ends, many_legs, many_cards, long_chains, loops_and_ties, again, sizes,
     ):  # fmt: skip
         part(table)
     table.end()

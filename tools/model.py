@@ -2,7 +2,8 @@
 """A model of tickets: how a ticket is judged, and which answers to it are right.
 
 It shares no code with the product and goes about things in another way. Lines are matched by taking derivatives of the
-set of allowed lines; least costs come from rounds of relaxation; chains are listed by search.
+set of allowed lines; least costs come from rounds of relaxation; chains are listed by search. A delay is a number of lines, with
+halves as exact fractions.
 
     judge(ticket)                 Granted, or Refused
     check_answer(ticket, output)  what is wrong with the output, or None
@@ -16,6 +17,7 @@ from __future__ import annotations
 import sys
 from collections.abc import Iterable, Iterator
 from dataclasses import dataclass, field
+from fractions import Fraction
 from functools import reduce
 from io import BytesIO
 
@@ -28,7 +30,8 @@ LARGEST_DEPTH = 16
 UNIT = {"delay": 0, "depth": 255}
 
 Pair = tuple[int, int]
-Cards = dict[Pair, int]
+Cost = int | Fraction
+Cards = dict[Pair, Cost]
 Chain = tuple[int, ...]
 
 
@@ -132,20 +135,22 @@ LETTERS = "abcdefghijklmnopqrstuvwxyz"
 DIGITS = "0123456789"
 POSITIVE = then(one_of(DIGITS[1:]), at_most(6, one_of(DIGITS)))
 NUMBER = either(text("0"), POSITIVE)
-COST = either(NUMBER, then(text("-"), POSITIVE))
+BITS = either(NUMBER, then(text("-"), POSITIVE))
+LINES = either(NUMBER, then(text("-"), POSITIVE), then(either(BLANK, text("-")), NUMBER, text(".5")))
+COSTS = {"delay": LINES, "depth": BITS}
 SIGN = one_of(LETTERS + LETTERS.upper() + DIGITS)
 CODE = then(SIGN, SIGN, SIGN, SIGN)
 ENDS = then(text("("), NUMBER, text(" "), NUMBER, text(")"))
 
 BAY = then(text("(bay "), either(text("delay"), text("depth")), text(" "), NUMBER, text(")\n"))
 FORMAT = then(text("(format "), NUMBER, text(" "), CODE, text(")\n"))
-CARD = then(text("(card "), ENDS, text(" "), COST, text(")\n"))
+CARDS = {kind: then(text("(card "), ENDS, text(" "), cost, text(")\n")) for kind, cost in COSTS.items()}
 LEG = then(text("(leg "), ENDS, text(")\n"))
 END = text("(end)\n")
 
 FIRST_LINE = BAY
 FORMAT_DUE = FORMAT
-CARDS_OR_LEGS = either(CARD, LEG, END)
+CARDS_OR_LEGS = {kind: either(card, LEG, END) for kind, card in CARDS.items()}
 ONLY_LEGS = either(LEG, END)
 
 
@@ -202,7 +207,7 @@ class Granted:
     codes: list[bytes]
     cards: Cards
     legs: list[Pair]
-    costs: list[int | None]
+    costs: list[Cost | None]
 
 
 class Refusal(Exception):
@@ -231,7 +236,7 @@ class Plan:
             return FIRST_LINE
         if len(self.codes) < self.n:
             return FORMAT_DUE
-        return ONLY_LEGS if self.legs else CARDS_OR_LEGS
+        return ONLY_LEGS if self.legs else CARDS_OR_LEGS[self.kind]
 
     def take(self, line: bytes, place: int) -> None:
         """Takes a whole allowed line that begins at the place."""
@@ -246,7 +251,7 @@ class Plan:
                     raise Refusal("ticket", 4, 0, place + line.rindex(b" ") + 1)
                 self.codes.append(code)
             case b"card", [start, end, cost]:
-                self.enter((int(start), int(end)), int(cost), place)
+                self.enter((int(start), int(end)), cost_of(cost), place)
             case b"leg", [start, end]:
                 self.book((int(start), int(end)), place)
             case _:
@@ -264,7 +269,7 @@ class Plan:
         if ends[0] == ends[1]:
             raise Refusal(layer, 12, 1, place)
 
-    def enter(self, ends: Pair, cost: int, place: int) -> None:
+    def enter(self, ends: Pair, cost: Cost, place: int) -> None:
         self.judge_ends(ends, "register", place)
         if not admitted(self.kind, cost):
             raise Refusal("register", 13, 2, place)
@@ -279,7 +284,17 @@ class Plan:
         self.legs.append(ends)
 
 
-def admitted(kind: str, cost: int) -> bool:
+def cost_of(word: bytes) -> Cost:
+    """The cost that is written so."""
+    return Fraction(word.decode())
+
+
+def cost_text(cost: Cost) -> str:
+    """How a cost is written: as a whole number, or as one and a half."""
+    return str(int(cost)) if cost == int(cost) else str(float(cost))
+
+
+def admitted(kind: str, cost: Cost) -> bool:
     return abs(cost) <= LARGEST_DELAY if kind == "delay" else 1 <= cost <= LARGEST_DEPTH
 
 
@@ -311,7 +326,7 @@ def read(ticket: bytes) -> Plan:
     return plan
 
 
-def route(plan: Plan) -> list[int | None]:
+def route(plan: Plan) -> list[Cost | None]:
     """The least cost of each leg."""
     if not plan.legs:
         raise Refusal("bay", 25, 0, plan.end_line)
@@ -347,17 +362,17 @@ def gains(n: int, cards: Cards) -> bool:
     return True
 
 
-def combined(kind: str, first: int, second: int) -> int:
+def combined(kind: str, first: Cost, second: Cost) -> Cost:
     return first + second if kind == "delay" else min(first, second)
 
 
-def undercuts(kind: str, first: int, second: int) -> bool:
+def undercuts(kind: str, first: Cost, second: Cost) -> bool:
     return first < second if kind == "delay" else first > second
 
 
-def least_costs(kind: str, n: int, cards: Cards, start: int) -> list[int | None]:
+def least_costs(kind: str, n: int, cards: Cards, start: int) -> list[Cost | None]:
     """The least cost of a walk from the start to each format, the unit for the start itself; no loop gains."""
-    best: list[int | None] = [None] * n
+    best: list[Cost | None] = [None] * n
     best[start] = UNIT[kind]
     for _ in range(n):
         calm = True
@@ -373,7 +388,7 @@ def least_costs(kind: str, n: int, cards: Cards, start: int) -> list[int | None]
     return best
 
 
-def walk_cost(kind: str, cards: Cards, walk: Chain) -> int | None:
+def walk_cost(kind: str, cards: Cards, walk: Chain) -> Cost | None:
     """The cost of a list of formats, None where it is no walk."""
     pairs = list(zip(walk, walk[1:]))
     if not pairs or any(pair not in cards for pair in pairs):
@@ -404,17 +419,17 @@ def leg_text(granted: Granted, number: int, chain: Chain | None) -> bytes:
     front = leg_front(number, granted.legs[number])
     if chain is None:
         return front + b"none)\n"
-    return front + b"%d " % granted.costs[number] + codes_text(granted.codes, chain) + b")\n"
+    return front + cost_text(granted.costs[number]).encode() + b" " + codes_text(granted.codes, chain) + b")\n"
 
 
 def granted_text(granted: Granted, chains: Iterable[Chain | None]) -> bytes:
     return b"".join(leg_text(granted, k, chain) for k, chain in enumerate(chains)) + b"(end)\n"
 
 
-def ticket_text(kind: str, codes: list[str], cards: Iterable[tuple[int, int, int]], legs: Iterable[Pair]) -> bytes:
+def ticket_text(kind: str, codes: list[str], cards: Iterable[tuple[int, int, Cost]], legs: Iterable[Pair]) -> bytes:
     lines = [f"(bay {kind} {len(codes)})"]
     lines += [f"(format {k} {code})" for k, code in enumerate(codes)]
-    lines += [f"(card ({start} {end}) {cost})" for start, end, cost in cards]
+    lines += [f"(card ({start} {end}) {cost_text(cost)})" for start, end, cost in cards]
     lines += [f"(leg ({start} {end}))" for start, end in legs]
     return "".join(line + "\n" for line in lines + ["(end)"]).encode()
 
@@ -483,7 +498,7 @@ def check_leg(granted: Granted, number: int, line: bytes, onward: dict[int, int]
     ends, cost = granted.legs[number], granted.costs[number]
     if cost is None:
         return None if line == leg_text(granted, number, None) else f"{line!r} where no walk leads from end to end"
-    words = between(line, leg_front(number, ends) + b"%d (" % cost, b"))\n")
+    words = between(line, leg_front(number, ends) + cost_text(cost).encode() + b" (", b"))\n")
     if words is None:
         return f"{line!r} is no line of leg {number} with ends {ends} and least cost {cost}"
     chain = formats_of(granted.codes, words)
@@ -543,7 +558,7 @@ def least_chains(granted: Granted, number: int, budget: Budget) -> list[Chain | 
     return list(paths(followers(tight(granted, end, cost)), (start,), end, budget))
 
 
-def tight(granted: Granted, end: int, cost: int) -> list[Pair]:
+def tight(granted: Granted, end: int, cost: Cost) -> list[Pair]:
     """The cards that chains of that least cost are made of, when they lead to the end."""
     if granted.kind == "depth":
         return [pair for pair, depth in granted.cards.items() if depth >= cost]

@@ -21,17 +21,19 @@ import tempfile
 from collections import Counter
 from collections.abc import Callable
 from dataclasses import dataclass
+from fractions import Fraction
 from pathlib import Path
 from random import Random
 from typing import BinaryIO
 
-from model import LARGEST_DELAY, LARGEST_DEPTH, LONGEST, MOST_CARDS, MOST_LEGS, Pair, check_answer, ticket_text
+from model import LARGEST_DELAY, LARGEST_DEPTH, LONGEST, MOST_CARDS, MOST_LEGS, Cost, Pair, check_answer, ticket_text
 
 ROOT = Path(__file__).resolve().parent.parent
 PROGRAM = ROOT / "crates/route/out/route"
 
 SECONDS = 20
-Entry = tuple[int, int, int]
+Entry = tuple[int, int, Cost]
+HALF = Fraction(1, 2)
 
 
 # Tickets that follow the rules.
@@ -120,8 +122,8 @@ def free_delays(rng: Random, n: int, pairs: list[Pair]) -> list[int]:
     return [rng.randint(low, high) for _ in pairs]
 
 
-def extreme_delays(rng: Random, n: int, pairs: list[Pair]) -> list[int]:
-    some = rng.choice([[LARGEST_DELAY], [-LARGEST_DELAY], [LARGEST_DELAY, LARGEST_DELAY - 1], [-LARGEST_DELAY, LARGEST_DELAY, 0]])
+def extreme_delays(rng: Random, n: int, pairs: list[Pair]) -> list[Cost]:
+    some = rng.choice([[LARGEST_DELAY], [-LARGEST_DELAY], [LARGEST_DELAY, LARGEST_DELAY - HALF], [-LARGEST_DELAY, LARGEST_DELAY, HALF]])
     return [rng.choice(some) for _ in pairs]
 
 
@@ -149,6 +151,8 @@ def draw_cards(rng: Random, kind: str, n: int) -> list[Entry]:
     rng.shuffle(pairs)
     pairs = pairs[: MOST_CARDS + (rng.random() < 0.2)]
     costs = (rng.choice(DELAYS) if kind == "delay" else depths)(rng, n, pairs)
+    if kind == "delay" and rng.random() < 0.5:
+        costs = [cost * HALF if 2 * cost == int(2 * cost) and abs(cost) < LARGEST_DELAY else cost for cost in costs]
     cards = [(a, b, cost) for (a, b), cost in zip(pairs, costs)]
     if cards and rng.random() < 0.2:
         early = [(a, b, rng.randint(1, LARGEST_DEPTH)) for a, b, _ in rng.choices(cards, k=rng.randint(1, 5))]
@@ -180,7 +184,9 @@ NUMBERS = ["0", "1", "2", "3", "8", "9", "15", "16", "17", "63", "64", "65", "12
 NUMBERS += ["511", "512", "999999", "1000000", "1000001", "4194304", "9999998", "9999999", "10000000", "12345678"]
 NUMBERS += ["4294967296", "4294967297", "18446744073709551616", "00", "01", "007"]
 SIGNED = NUMBERS + ["-" + number for number in NUMBERS] + ["-", "--1", "+1", ""]
-SIGNS = b"()- \n\r\t\0" + (string.ascii_letters + string.digits).encode()
+HALVES = ["0.5", "1.5", "12.5", "999999.5", "1000000.5", "9999999.5", "10000000.5", "00.5", ".5", ".", "5.", "5.6", "5.50", "0.0", "1.5.5"]
+SIGNED += HALVES + ["-" + number for number in HALVES]
+SIGNS = b"()-. \n\r\t\0" + (string.ascii_letters + string.digits).encode()
 
 
 def truncated(rng: Random, ticket: bytes) -> bytes:
@@ -243,7 +249,7 @@ def other_number(rng: Random, ticket: bytes) -> bytes:
 
 
 def other_cost(rng: Random, ticket: bytes) -> bytes:
-    chosen = rng.choice(list(re.finditer(rb"-?[0-9]+(?=\)\n\((?:card|leg|end))", ticket)))
+    chosen = rng.choice(list(re.finditer(rb"-?[0-9.]+(?=\)\n\((?:card|leg|end))", ticket)))
     return ticket[: chosen.start()] + rng.choice(SIGNED).encode() + ticket[chosen.end() :]
 
 
@@ -287,7 +293,7 @@ def noise(rng: Random) -> bytes:
 
 def soup(rng: Random) -> bytes:
     """Words of the grammar in any order."""
-    words = ["(", ")", " ", "\n", "bay", "format", "card", "leg", "end", "delay", "depth", "UYVY", "(bay ", "(end)\n", "0", "1", "-1"]
+    words = ["(", ")", " ", "\n", "bay", "format", "card", "leg", "end", "delay", "depth", "UYVY", "(bay ", "(end)\n", "0", "1", "-1", ".5"]
     return "".join(rng.choices(words, k=rng.randrange(40))).encode()
 
 
@@ -303,7 +309,7 @@ def loose_line(rng: Random, n: int, word: str, due: int) -> str:
             k = str(due) if rng.random() < 0.99 else number(rng, n)
             return f"(format {k} {rng.choice('aB')}{rng.choice('01')}{due:02})"
         case "card":
-            return f"(card {ends} {number(rng, 17)})"
+            return f"(card {ends} {number(rng, 17)}{rng.choice(['', '', '', '.5'])})"
         case "leg":
             return f"(leg {ends})"
         case "end":

@@ -13,6 +13,7 @@ from collections import Counter
 from collections.abc import Iterator
 from contextlib import redirect_stdout
 from dataclasses import dataclass
+from fractions import Fraction
 from io import BytesIO, StringIO
 from typing import BinaryIO
 
@@ -34,18 +35,20 @@ NUMBER = rb"(?:0|[1-9][0-9]{0,6})"
 LINES = {
     "bay": re.compile(rb"\(bay (?:delay|depth) " + NUMBER + rb"\)\n"),
     "format": re.compile(rb"\(format " + NUMBER + rb" [0-9A-Za-z]{4}\)\n"),
-    "card": re.compile(rb"\(card \(" + NUMBER + b" " + NUMBER + rb"\) (?:" + NUMBER + rb"|-[1-9][0-9]{0,6})\)\n"),
+    "delay card": re.compile(rb"\(card \(" + NUMBER + b" " + NUMBER + rb"\) (?!-0\))-?" + NUMBER + rb"(?:\.5)?\)\n"),
+    "depth card": re.compile(rb"\(card \(" + NUMBER + b" " + NUMBER + rb"\) (?:" + NUMBER + rb"|-[1-9][0-9]{0,6})\)\n"),
     "leg": re.compile(rb"\(leg \(" + NUMBER + b" " + NUMBER + rb"\)\)\n"),
     "end": re.compile(rb"\(end\)\n"),
 }
 STAGES = [
     (model.FIRST_LINE, ["bay"]),
     (model.FORMAT_DUE, ["format"]),
-    (model.CARDS_OR_LEGS, ["card", "leg", "end"]),
+    (model.CARDS_OR_LEGS["delay"], ["delay card", "leg", "end"]),
+    (model.CARDS_OR_LEGS["depth"], ["depth card", "leg", "end"]),
     (model.ONLY_LEGS, ["leg", "end"]),
 ]
 # Some end of these makes a whole line of each front of one.
-SAMPLES = [b"(bay delay 1)\n", b"(bay depth 1)\n", b"(format 1 aaaa)\n", b"(card (1 1) 1)\n", b"(leg (1 1))\n", b"(end)\n"]
+SAMPLES = [b"(bay delay 1)\n", b"(bay depth 1)\n", b"(format 1 aaaa)\n", b"(card (1 1) 1)\n", b"(card (1 1) 1.5)\n", b"(leg (1 1))\n", b"(end)\n"]
 BACKS = [line[k:] for line in SAMPLES for k in range(len(line) + 1)]
 
 
@@ -76,7 +79,7 @@ class Fronts(unittest.TestCase):
 
     def test_random_lines(self) -> None:
         rng = random.Random(1)
-        alphabet = b"()- \n\r\0019azAZ"
+        alphabet = b"()-.5 \n\r\0019azAZ"
         for _ in range(3000):
             lines, names = rng.choice(STAGES)
             front = bytearray(rng.choice(SAMPLES))
@@ -87,7 +90,7 @@ class Fronts(unittest.TestCase):
                 self.assertEqual(model.fits(lines, front[:k]), fits_by_force(names, bytes(front[:k])), front[:k])
 
     def test_corners(self) -> None:
-        first, formats, cards, legs = (lines for lines, _ in STAGES)
+        first, formats, cards, deep, legs = (lines for lines, _ in STAGES)
         for lines, good, bad in [
             (first, b"(bay de", b"(bay dez"),
             (first, b"(bay del", b"(bay dea"),
@@ -96,7 +99,17 @@ class Fronts(unittest.TestCase):
             (first, b"(bay delay ", b"(bay delay -"),
             (formats, b"(format 0 aZ09", b"(format 0 aZ09a"),
             (formats, b"(format 0 aZ0", b"(format 0 aZ0)"),
-            (cards, b"(card (0 1) -", b"(card (0 1) -0"),
+            (cards, b"(card (0 1) -0", b"(card (0 1) -0)"),
+            (cards, b"(card (0 1) -0", b"(card (0 1) -01"),
+            (cards, b"(card (0 1) -0.", b"(card (0 1) -0.0"),
+            (cards, b"(card (0 1) -0.5)", b"(card (0 1) -0.50"),
+            (cards, b"(card (0 1) 0.5)", b"(card (0 1) .5"),
+            (cards, b"(card (0 1) 12.5)", b"(card (0 1) 12.5."),
+            (cards, b"(card (0 1) 1234567.5", b"(card (0 1) 12345678"),
+            (cards, b"(card (0", b"(card (0."),
+            (deep, b"(card (0 1) -", b"(card (0 1) -0"),
+            (deep, b"(card (0 1) 8", b"(card (0 1) 8."),
+            (deep, b"(card (0 1) -1", b"(card (0 1) -1."),
             (cards, b"(card (0 1) -1234567", b"(card (0 1) -12345678"),
             (cards, b"(card (0 1) 0", b"(card (0 1) 0\r"),
             (cards, b"(leg (0 1))", b"(leg (0 1))\0"),
@@ -128,7 +141,7 @@ def loops_by_force(n: int, cards: Cards) -> Iterator[Chain]:
                 yield loop
 
 
-def costs_of(cards: Cards, chain: Chain) -> list[int]:
+def costs_of(cards: Cards, chain: Chain) -> list[model.Cost]:
     return [cards[pair] for pair in zip(chain, chain[1:])]
 
 
@@ -142,7 +155,8 @@ def random_cards(rng: random.Random, kind: str, n: int) -> Cards:
     height = [rng.randint(-5, 5) for _ in range(n)]
     slack = rng.choice([0, 1, 3])
     lowest = rng.choice([0, -1])
-    return {(a, b): rng.randint(lowest, slack) + height[b] - height[a] for a, b in pairs}
+    step = rng.choice([1, Fraction(1, 2)])
+    return {(a, b): step * (rng.randint(lowest, slack) + height[b] - height[a]) for a, b in pairs}
 
 
 def random_ticket(rng: random.Random, most_formats: int, most_legs: int) -> bytes:
@@ -176,7 +190,7 @@ class Costs(unittest.TestCase):
 
     def test_long_loops(self) -> None:
         ring = [*range(1, 64), 0]
-        for last, gaining in (63, False), (62, True):
+        for last, gaining in (63, False), (62 + Fraction(1, 2), True), (62, True):
             cards = {(a, b): -1 for a, b in enumerate(ring)} | {(63, 0): last}
             self.assertEqual(model.gains(64, cards), gaining)
             self.assertEqual(model.gains(64, dict(reversed(cards.items()))), gaining)
@@ -222,7 +236,18 @@ class Judging(unittest.TestCase):
             (b"(0 1) 4", b"(1 1) 1000001", ("register", 12, 1, 62)),
             (b"(0 1) 4", b"(0 1) 1000001", ("register", 13, 2, 62)),
             (b"(0 1) 4", b"(0 1) -1000000", None),
-            (b"(0 1) 4", b"(0 1) -0", ("ticket", 2, 0, 75)),
+            (b"(0 1) 4", b"(0 1) -0", ("ticket", 2, 0, 76)),
+            (b"(0 1) 4", b"(0 1) -0.5", None),
+            (b"(0 1) 4", b"(0 1) 4.5", None),
+            (b"(0 1) 4", b"(0 1) 4.0", ("ticket", 2, 0, 76)),
+            (b"(0 1) 4", b"(0 1) 4.", ("ticket", 2, 0, 76)),
+            (b"(0 1) 4", b"(0 1) .5", ("ticket", 2, 0, 74)),
+            (b"(0 1) 4", b"(0 1) 4.50", ("ticket", 2, 0, 77)),
+            (b"(0 1) 4", b"(0 1) 999999.5", None),
+            (b"(0 1) 4", b"(0 1) 1000000.5", ("register", 13, 2, 62)),
+            (b"(0 1) 4", b"(0 1) -1000000.5", ("register", 13, 2, 62)),
+            (b"(0 1) 4", b"(0.5 1) 4", ("ticket", 2, 0, 70)),
+            (b"delay 3", b"delay 3.5", ("ticket", 2, 0, 12)),
             (b"(0 2) 6", b"(1 0) -5", ("bay", 26, 0, 133)),
             (b"(leg (0 1))", b"(leg (0 3))", ("bay", 11, 1, 108)),
             (b"(leg (0 1))", b"(leg (1 1))", ("bay", 12, 1, 108)),
@@ -253,6 +278,19 @@ class Judging(unittest.TestCase):
         front = len(model.ticket_text("delay", codes, [], legs[:32])) - len(b"(end)\n")
         self.assertIsNone(refusal(model.ticket_text("delay", codes, [], legs[:32])))
         self.assertEqual(refusal(model.ticket_text("delay", codes, [], legs)), ("bay", 24, 0, front))
+
+    def test_written_costs(self) -> None:
+        """Every number of half lines near 0 and near the bounds is written in one way, and read back."""
+        for half_lines in [*range(-30, 31), *range(-2_000_003, -1_999_997), *range(1_999_997, 2_000_004)]:
+            cost = Fraction(half_lines, 2)
+            sign, lines, half = "-" * (half_lines < 0), abs(half_lines) // 2, ".5" * (half_lines % 2)
+            self.assertEqual(model.cost_text(cost), f"{sign}{lines}{half}")
+            self.assertEqual(model.cost_of(model.cost_text(cost).encode()), cost)
+            got = refusal(model.ticket_text("delay", CODES[:2], [(0, 1, cost)], [(0, 1)]))
+            self.assertEqual(got, None if abs(half_lines) <= 2_000_000 else ("register", 13, 2, 46), half_lines)
+        for word in "-0", "8.5", "8.", "-0.5":
+            ticket = model.ticket_text("depth", CODES[:2], [(0, 1, 77)], [(0, 1)]).replace(b"77", word.encode())
+            self.assertEqual(refusal(ticket), ("ticket", 2, 0, 59), word)
 
     def test_depths(self) -> None:
         for depth in -9999999, -1, 0, 1, 16, 17, 255, 256, 257, 9999999:
@@ -448,7 +486,7 @@ class CaseTable(unittest.TestCase):
         out.seek(0)
         records = list(read_table(out))
         self.assertEqual(out.read(), b"")
-        self.assertLess(written.size, 300_000)
+        self.assertLess(written.size, 400_000)
         changed: Counter[bytes] = Counter()
         for record in records:
             tickets = list(record.tickets())

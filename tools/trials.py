@@ -1,5 +1,6 @@
 #!/usr/bin/env python3
-"""Prints what the program trials must print, from a model of its own: a dict of cards, and routes by brute force."""
+"""Prints what the program trials must print, from a model of its own: a dict of cards, and routes by brute force. Delays are in half
+lines."""
 
 import itertools
 
@@ -48,7 +49,7 @@ class Model:
     def enter(self, a, b, cost):
         if refused := self.ends(a, b):
             return refused
-        if abs(cost) > 1000000:
+        if abs(cost) > 2000000:
             return "13.2"
         if self.is_sealed(a, b):
             return "21.0"
@@ -73,10 +74,10 @@ class Model:
         return self.cards.get(self.pair(a, b), "-")
 
 
-BOUNDS = [1000000, 1000001, -1000000, -1000001, 2**31 - 1, -(2**31)]
+BOUNDS = [2000000, 2000001, -2000000, -2000001, 2**31 - 1, -(2**31)]
 
 
-def lines(dice):
+def half_lines(dice):
     choice = dice.below(12)
     return BOUNDS[choice] if choice < 6 else dice.number(-9, 19)
 
@@ -89,7 +90,7 @@ def call(model, dice):
     sort = dice.below(4)
     a = end(dice, model.n)
     b = end(dice, model.n)
-    cost = lines(dice)
+    cost = half_lines(dice)
     if sort < 2:
         return f"enter {a} {b} {cost} {model.enter(a, b, cost)}"
     if sort == 2:
@@ -303,13 +304,13 @@ def fixed_cases():
     show("a loop of three that does not", "delay", 3, {(0, 1): 2, (1, 2): -4, (2, 0): 2}, [(0, 2), (1, 0), (2, 1)])
     show("a loop beside one of no delay", "delay", 3, {(0, 2): -1, (1, 2): -1, (2, 0): 1, (2, 1): 0}, [(0, 1)])
     show("a deeper detour", "depth", 3, {(0, 1): 10, (1, 2): 8, (0, 2): 6}, [(0, 2)])
-    show("two formats", "delay", 2, {(0, 1): 1000000}, [(0, 1), (1, 0)])
-    show("two formats in a loop", "delay", 2, {(0, 1): 1000000, (1, 0): -1000000}, [(0, 1), (1, 0)])
+    show("two formats", "delay", 2, {(0, 1): 2000000}, [(0, 1), (1, 0)])
+    show("two formats in a loop", "delay", 2, {(0, 1): 2000000, (1, 0): -2000000}, [(0, 1), (1, 0)])
     show("no card", "delay", 2, {}, [(1, 0)])
     show("one card", "depth", 2, {(1, 0): 16}, [(1, 0), (0, 1)])
     # Only the way by every next format is without a card of the dearer sort; back to 0 every card is dear.
     show("a long way round", "delay", 64, complete(0, 1), [(0, 63), (63, 0), (60, 63)], [up(0, 63), (63, 0), up(60, 63)])
-    show("a loop of most formats", "delay", 64, complete(-1000000, 1000000), [(0, 63)])
+    show("a loop of most formats", "delay", 64, complete(-2000000, 2000000), [(0, 63)])
     show("a long deep way", "depth", 64, complete(16, 15), [(0, 63), (5, 9)], [up(0, 63), up(5, 9)])
     print("no legs: bay 25.0")
     print("book 3 0: bay 11.0")
@@ -324,7 +325,7 @@ def fixed_cases():
     print("book 2 1: 0")
     print("show 1: bay 14.0")
     print("withdraw 0 1: register 22.0")
-    print("enter 0 1 1000001: register 13.2")
+    print("enter 0 1 2000001: register 13.2")
     notes()
 
 

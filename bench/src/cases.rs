@@ -17,6 +17,7 @@ pub struct Leg {
 pub struct Card {
     pub from: usize,
     pub to: usize,
+    /// half lines, or bits
     pub cost: i32,
 }
 
@@ -53,16 +54,16 @@ impl Random {
 }
 
 impl Case {
-    /// The same numbers give the same case. Delays are a number of 0 or more and a difference of potentials, so that some
-    /// are below 0 and no closed walk is. The first leg has a chain.
+    /// The same numbers give the same case. Delays are in half lines, a number of 0 or more and a difference of potentials, so
+    /// that some are below 0 and no closed walk is. The first leg has a chain.
     pub fn new(kind: Kind, n: usize, cards: usize, legs: usize) -> Case {
         let mut random = Random(0x9E37_79B9_7F4A_7C15 ^ (n * 10_000 + cards) as u64);
-        let potentials: Vec<i32> = (0..n).map(|_| random.below(300_000) as i32).collect();
+        let potentials: Vec<i32> = (0..n).map(|_| random.below(600_000) as i32).collect();
         let card = |random: &mut Random, from: usize, to: usize| Card {
             from,
             to,
             cost: match kind {
-                Kind::Delay => random.below(600_000) as i32 + potentials[to] - potentials[from],
+                Kind::Delay => random.below(1_200_000) as i32 + potentials[to] - potentials[from],
                 Kind::Depth => 1 + random.below(16) as i32,
             },
         };
@@ -82,6 +83,18 @@ impl Case {
         matrix
     }
 
+    /// A cost as tickets and answers have it: delays in lines, with .5 for half a line.
+    pub fn text_of(&self, cost: i32) -> String {
+        match self.kind {
+            Kind::Delay => {
+                let sign = if cost < 0 { "-" } else { "" };
+                let half = if cost % 2 == 0 { "" } else { ".5" };
+                format!("{sign}{}{half}", cost.unsigned_abs() / 2)
+            }
+            Kind::Depth => cost.to_string(),
+        }
+    }
+
     /// The case as the text of a ticket.
     pub fn ticket(&self) -> String {
         let kind = if self.kind == Kind::Delay { "delay" } else { "depth" };
@@ -89,8 +102,8 @@ impl Case {
         for k in 0..self.n {
             text += &format!("(format {k} F{k:03})\n");
         }
-        for Card { from, to, cost } in &self.cards {
-            text += &format!("(card ({from} {to}) {cost})\n");
+        for &Card { from, to, cost } in &self.cards {
+            text += &format!("(card ({from} {to}) {})\n", self.text_of(cost));
         }
         for Leg { from, to } in &self.legs {
             text += &format!("(leg ({from} {to}))\n");

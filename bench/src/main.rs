@@ -203,7 +203,7 @@ fn program(path: &str, ticket: &str) {
     let answer = run(path).1;
     assert_eq!(answer.lines().count(), case.legs.len() + 1, "the program prints {answer}");
     for (k, (line, &leg)) in answer.lines().zip(&case.legs).enumerate() {
-        let cost = hand(Some(leg)).map_or("none)".to_string(), |cost| format!("{cost} ("));
+        let cost = hand(Some(leg)).map_or("none)".to_string(), |cost| format!("{} (", case.text_of(cost)));
         let begin = format!("(leg {k} ({} {}) {cost}", leg.from, leg.to);
         assert!(line.starts_with(&begin), "the program prints {line}, and not {begin}");
     }

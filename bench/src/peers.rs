@@ -5,7 +5,7 @@ use petgraph::algo::{bellman_ford, floyd_warshall};
 use petgraph::graph::{DiGraph, NodeIndex};
 use std::ops::Add;
 
-/// Makes one call. Asked for a leg, it answers the cost that the call found for it. One with a single source takes the
+/// Makes one call. Asked for a leg, it answers the cost that the call found for it, in half lines or in bits. One with a single source takes the
 /// first leg's, and is asked for legs from there alone.
 pub type Peer = Box<dyn FnMut(Option<Leg>) -> Option<i32>>;
 

@@ -1,10 +1,10 @@
--- The kind delay: video lines with a sign, as a whole number of any size.
+-- The kind delay: half lines of video with a sign, as a whole number of any size.
 use Rattle.std.specs.Prelude.{ℕ, ◌*◌, ◌≤◌, ℤ, pos, ◌+ℤ◌, ◌<ℤ◌, nat_le, unsigned_abs}
 use Rattle.costs.specs.Algebra.{Algebra}
 
--- A card's delay is at most so many lines from 0.
-abbrev pub most_lines : ℕ
-most_lines = 1_000_000
+-- A card's delay is at most so many half lines from 0.
+abbrev pub most_half_lines : ℕ
+most_half_lines = 2_000_000
 
 abbrev pub delay : Algebra
 delay = record {
@@ -12,6 +12,6 @@ delay = record {
   unit = pos 0;
   join = ◌+ℤ◌;
   Under = ◌<ℤ◌;
-  Within = λ m z. unsigned_abs z ≤ m * most_lines;
-  admits = λ z. nat_le (unsigned_abs z) most_lines;
+  Within = λ m z. unsigned_abs z ≤ m * most_half_lines;
+  admits = λ z. nat_le (unsigned_abs z) most_half_lines;
 }

@@ -6,7 +6,7 @@ use Rattle.std.proofs.lemmas.Int.{ints, by_lt_z}
 use Rattle.std.proofs.lemmas.Bool.{leb-true}
 use Rattle.std.proofs.lemmas.Bool.Decides.{nat_tests}
 use Rattle.costs.specs.Algebra.{Lawful}
-use Rattle.costs.specs.Delay.{delay, most_lines}
+use Rattle.costs.specs.Delay.{delay, most_half_lines}
 
 one_of : (a b : ℤ) → (a <ℤ b) ⊎ ((a ≡ b) ⊎ (b <ℤ a))
 one_of a b = by_lt_z a b inl (λ up. inr (by_lt_z b a inr (λ down. inl (omega (arith, ints)))))
@@ -18,7 +18,7 @@ unsigned_abs_sum (pos a) (negsuc b) = grind (arith, nat_tests)
 unsigned_abs_sum (negsuc a) (pos b) = grind (arith, nat_tests)
 unsigned_abs_sum (negsuc a) (negsuc b) = omega arith
 
-within_join : (m k : ℕ) (a b : ℤ) → unsigned_abs a ≤ m * most_lines → unsigned_abs b ≤ k * most_lines → unsigned_abs (a +ℤ b) ≤ (m + k) * most_lines
+within_join : (m k : ℕ) (a b : ℤ) → unsigned_abs a ≤ m * most_half_lines → unsigned_abs b ≤ k * most_half_lines → unsigned_abs (a +ℤ b) ≤ (m + k) * most_half_lines
 within_join m k a b p q = omega (arith, unsigned_abs_sum a b)
 
 pub delay_lawful : Lawful delay
@@ -32,7 +32,7 @@ delay_lawful = record {
   trans = λ a b c p q. omega (arith, ints);
   keeps = λ a b c p q. p (omega (arith, ints));
   unit_within = omega arith;
-  admitted_within = λ a h. omega (arith, leb-true (unsigned_abs a) most_lines h);
+  admitted_within = λ a h. omega (arith, leb-true (unsigned_abs a) most_half_lines h);
   within_more = λ m k a p q h. omega arith;
   within_join = λ m k a b f p q. within_join m k a b p q;
 }

@@ -6,7 +6,7 @@ use Rattle.costs.specs.Delay.{delay}
 use Rattle.costs.specs.Depth.{depth, bits}
 
 abbrev pub delays : Kind Delay
-delays = record { algebra = delay; value = λ d. d.lines }
+delays = record { algebra = delay; value = λ d. d.half_lines }
 
 abbrev pub depths : Kind Depth
 depths = record { algebra = depth; value = λ d. bits d.bits }

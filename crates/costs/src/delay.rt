@@ -1,42 +1,43 @@
-// Delay in video lines. A converter that reads ahead gives lines back, so a delay has a sign.
+// Delay in half lines of video, since interlaced suppliers declare half lines. A converter that reads ahead gives lines back, so a
+// delay has a sign.
 ghost use Rattle.costs.specs.Delay.{delay};
 ghost use Rattle.costs.specs.DelayLaws.{delay_lawful};
 
 use crate::Cost;
 
-// A card's delay is at most so many lines from 0.
-const MOST_LINES: i32 = 1_000_000;
+// A card's delay is at most so many half lines from 0: a million lines.
+const MOST_HALF_LINES: i32 = 2_000_000;
 
-// So many video lines; the smaller delay undercuts.
+// So many half lines; the smaller delay undercuts.
 #[repr(C)]
 #[derive(Clone, Copy, Debug, PartialEq, Eq)]
 pub struct Delay {
-    pub lines: i32,
+    pub half_lines: i32,
 }
 
 impl Cost for Delay {
     ghost algebra = { delay };
 
-    ghost value = { λ d. d.lines };
+    ghost value = { λ d. d.half_lines };
 
     ghost lawful = { delay_lawful };
 
     fn unit() -> Delay {
-        Delay { lines: 0 }
+        Delay { half_lines: 0 }
     }
 
     // Beyond what 32 bits hold, where any cost will do, the sum wraps: a test for it took a third of the instructions of a route.
     fn join(self, other: Delay) -> Delay {
         Delay {
-            lines: self.lines.wrapping_add(other.lines),
+            half_lines: self.half_lines.wrapping_add(other.half_lines),
         }
     }
 
     fn undercuts(self, other: Delay) -> bool {
-        self.lines < other.lines
+        self.half_lines < other.half_lines
     }
 
     fn admitted(self) -> bool {
-        (-MOST_LINES..=MOST_LINES).contains(&self.lines)
+        (-MOST_HALF_LINES..=MOST_HALF_LINES).contains(&self.half_lines)
     }
 }

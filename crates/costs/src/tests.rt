@@ -1,8 +1,8 @@
 // The kinds at their bounds.
 use crate::{Cost, Delay, Depth};
 
-fn delay(lines: i32) -> Delay {
-    Delay { lines }
+fn delay(half_lines: i32) -> Delay {
+    Delay { half_lines }
 }
 
 fn depth(bits: u8) -> Depth {
@@ -11,10 +11,10 @@ fn depth(bits: u8) -> Depth {
 
 #[test]
 fn a_delay_is_admitted_up_to_a_million_lines(rt: HostRuntime) {
-    assert!(rt; delay(1_000_000).admitted());
-    assert!(rt; delay(-1_000_000).admitted());
-    assert!(rt; !delay(1_000_001).admitted());
-    assert!(rt; !delay(-1_000_001).admitted());
+    assert!(rt; delay(2_000_000).admitted());
+    assert!(rt; delay(-2_000_000).admitted());
+    assert!(rt; !delay(2_000_001).admitted());
+    assert!(rt; !delay(-2_000_001).admitted());
 }
 
 #[test]
@@ -29,14 +29,14 @@ fn a_depth_is_admitted_from_one_to_sixteen_bits(rt: HostRuntime) {
 #[test]
 fn sums_are_exact_over_256_cards(rt: HostRuntime) {
     assert_eq!(rt;
-        delay(255_000_000).join(delay(1_000_000)),
-        delay(256_000_000)
+        delay(510_000_000).join(delay(2_000_000)),
+        delay(512_000_000)
     );
     assert_eq!(rt;
-        delay(-255_000_000).join(delay(-1_000_000)),
-        delay(-256_000_000)
+        delay(-510_000_000).join(delay(-2_000_000)),
+        delay(-512_000_000)
     );
-    assert_eq!(rt; delay(256_000_000).join(delay(-256_000_000)), delay(0));
+    assert_eq!(rt; delay(512_000_000).join(delay(-512_000_000)), delay(0));
 }
 
 #[test]

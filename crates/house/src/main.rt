@@ -77,7 +77,7 @@ fn print_routes(rt: &HostRuntime, costs: &[Delay], chains: &[u8]) -> anyhow::Res
         if formats.is_empty() {
             println!(rt; "leg {k}: none")?;
         } else {
-            print!(rt; "leg {k}: {} by", cost.lines)?;
+            print!(rt; "leg {k}: {} half lines by", cost.half_lines)?;
             print_formats(rt, formats)?;
         }
     }
@@ -111,7 +111,7 @@ fn print_answer(
 fn serve(rt: &HostRuntime, bars: u64, calls: &[Call<Delay>]) -> anyhow::Result<()> {
     let mut bay = Bay::new(Over::new(HouseTable, Bars { bits: bars }));
     let mut table = [Cell::empty(); 64];
-    let mut costs = [Delay { lines: 0 }; MOST_LEGS];
+    let mut costs = [Delay { half_lines: 0 }; MOST_LEGS];
     let mut chains = [255; CHAIN_BYTES];
     let mut answers = vec![in rt.alloc(); Answer::Looped; calls.len()]?;
     bay.run(calls, &mut answers, &mut table, &mut costs, &mut chains)

@@ -1,9 +1,11 @@
 -- The reader over the bytes of a text: what it knows at each place.
 -- Where it waits, some allowed line goes on; where a byte is refused, none does.
-use Rattle.std.proofs.Common.{◌≡◌, ℕ, ◌+◌, ◌-◌, ◌<◌, ◌≤◌, Bool, true, false, List, [], ◌∷◌, ◌++◌, length, get_or, take, drop, pos, neg_ℤ, Some, None, Option, codes, sym, refl, ap, ◌∙◌, subst, arith}
+use Rattle.std.proofs.Common.{◌≡◌, ℕ, ◌+◌, ◌-◌, ◌*◌, ◌<◌, ◌≤◌, Bool, true, false, cond, ◌&&◌, eqb, List, [], ◌∷◌, ◌++◌, length, get_or, take, drop, Some, None, Option, codes, sym, refl, ap, ◌∙◌, subst, arith}
 use Rattle.std.proofs.lemmas.List.{take_more, take_all, take-append-drop, drop-drop, get_or-drop, length-drop, length-take-le}
+use Rattle.std.proofs.lemmas.Bool.{ne_eqb, cond-false, false≢true}
+use Rattle.lines.specs.Signs.{digit}
 use Rattle.lines.specs.Grammar.{line_text, Allowed, FourSigns, Fits, Unfinished, part, number_begins, code_begins, IsRead}
-use Rattle.lines.specs.Rests.{Rest, dead, over, after_byte, fixed, letters_of, ending, closing, size_rest, code_rest, number_rest, below_zero, not_below, cost_rest, pair_end, to_rest, from_rest, kind_choice, word_end, word_rest, first_rest, line_rest, reading, cost_reading, rest_at, to_come}
+use Rattle.lines.specs.Rests.{Rest, dead, over, on, number, after_byte, fixed, letters_of, ending, closing, size_rest, code_rest, number_rest, delay_line, depth_line, half_more, lines_end, lines_rest, bits_end, bits_rest, cost_rest, pair_end, to_rest, from_rest, kind_choice, word_end, word_rest, first_rest, line_rest, reading, lines_reading, bits_reading, rest_at, to_come}
 use Rattle.lines.specs.declared.line.Kind.{Kind}
 use Rattle.lines.specs.declared.line.Kind.TheVariants.{Delay, Depth}
 use Rattle.lines.specs.declared.line.Line.{Line}
@@ -16,8 +18,8 @@ use Rattle.lines.specs.declared.words.Word.TheVariants.{Bay, Format, Card, Leg, 
 use Rattle.lines.specs.declared.words.Word.TheVariants as word
 use Rattle.lines.specs.declared.reader.Reader.{Reader}
 use Rattle.lines.specs.declared.reader.State.{State}
-use Rattle.lines.specs.declared.reader.State.TheVariants.{Opening, First, InWord, InKind, Pair, Size, Number, From, To, PairEnd, Cost, InCode, Ending, Over}
-use Rattle.lines.proofs.Runs.{run, run_append, not_dead, Fine, fine_run, ends, Waits, waits_not_dead, waits_fixed, waits_signs, Live, live_fixed, live_signs, live_number}
+use Rattle.lines.specs.declared.reader.State.TheVariants.{Opening, First, InWord, InKind, Pair, Size, Number, From, To, PairEnd, Lines, Point, Closing, Bits, InCode, Ending, Over}
+use Rattle.lines.proofs.Runs.{run, run_append, not_dead, Fine, fine_run, ends, Waits, waits_not_dead, waits_fixed, waits_signs, Undigited, Live, live_fixed, live_signs, live_number, live_stopped}
 use Rattle.lines.proofs.Lines.{complete, sound}
 
 -- every stage has a line, and no way ends before it
@@ -25,7 +27,7 @@ live_over : (w : List ℕ) (l : Line) → Live (fixed w (over l))
 live_over w l = live_fixed w (over l) (tt, tt)
 
 live_size : (kind : Kind) → Live (size_rest kind)
-live_size kind = live_number 0 41 (λ n. ending (line.Bay kind n)) (omega arith) (λ n. live_over (10 ∷ []) (line.Bay kind n))
+live_size kind = live_stopped 0 41 (λ n. ending (line.Bay kind n)) (omega arith) refl (λ n. live_over (10 ∷ []) (line.Bay kind n))
 
 live_kind : Live kind_choice
 live_kind =
@@ -33,34 +35,77 @@ live_kind =
     let e = live_fixed (codes "th ") (size_rest Depth) (live_size Depth) in
     ((d.0, d.1, (e.0, e.1, tt)), tt)
 
-live_cost : (a b : ℕ) → Live (cost_rest a b)
-live_cost a b =
-    let m = live_number 1 41 (below_zero a b) (omega arith) (λ n. live_over (10 ∷ []) (line.Card a b (neg_ℤ (pos n)))) in
-    let p = live_number 0 41 (not_below a b) (omega arith) (λ n. live_over (10 ∷ []) (line.Card a b (pos n))) in
-    ((m.0, m.1, p.0), tt)
+-- a minus, and then a number
+live_signed : (low : ℕ) (below not_below : ℕ → Rest) → Live (number low below) → Live (number 0 not_below) → Live (on 45 (number low below) (number 0 not_below))
+live_signed low below not_below m p = ((m.0, m.1, p.0), tt)
 
-live_card : Live (word_rest word.Card 1)
-live_card = live_fixed (codes "ard (") (from_rest word.Card) (live_number 0 32 (to_rest word.Card) (omega arith)
-    (λ a. live_number 0 41 (pair_end word.Card a) (omega arith) (λ b. live_fixed (codes " ") (cost_rest a b) (live_cost a b))))
+-- what may follow the whole lines of a delay is no digit
+lines_ended : (a b : ℕ) (minus : Bool) (n : ℕ) → Fine (lines_end a b minus n) × Waits (lines_end a b minus n) × Undigited (lines_end a b minus n)
+lines_ended a b minus n = by_test (minus && eqb n 0)
+  where
+    half : Rest
+    half = half_more a b minus n
 
-live_leg : Live (word_rest word.Leg 1)
-live_leg = live_fixed (codes "eg (") (from_rest word.Leg) (live_number 0 32 (to_rest word.Leg) (omega arith)
-    (λ a. live_number 0 41 (pair_end word.Leg a) (omega arith) (λ b. live_over (41 ∷ 10 ∷ []) (line.Leg a b))))
+    whole : Rest
+    whole = ending (delay_line a b minus (2 * n))
 
-live_end : Live (word_rest word.End 1)
+    live_half : Live half
+    live_half = live_over (46 ∷ 53 ∷ 41 ∷ 10 ∷ []) (delay_line a b minus (2 * n + 1))
+
+    live_whole : Live whole
+    live_whole = live_over (10 ∷ []) (delay_line a b minus (2 * n))
+
+    no_point : (c : ℕ) → digit c ≡ true → eqb c 46 ≡ false
+    no_point c d = ne_eqb c 46 (λ e. false≢true (sym (ap digit e) ∙ d))
+
+    no_closing : (c : ℕ) → digit c ≡ true → eqb c 41 ≡ false
+    no_closing c d = ne_eqb c 41 (λ e. false≢true (sym (ap digit e) ∙ d))
+
+    undigited_half : Undigited half
+    undigited_half c d = cond-false (eqb c 46) _ dead (no_point c d)
+
+    by_test : (t : Bool) → Fine (cond t half (on 41 whole half)) × Waits (cond t half (on 41 whole half)) × Undigited (cond t half (on 41 whole half))
+    by_test true = (live_half.0, tt, undigited_half)
+    by_test false = ((live_whole.0, live_whole.1, live_half.0), tt, λ c d. cond-false (eqb c 41) whole (after_byte half c) (no_closing c d) ∙ undigited_half c d)
+
+live_lines : (a b : ℕ) → Live (lines_rest a b)
+live_lines a b =
+    live_signed 0 (lines_end a b true) (lines_end a b false)
+    (live_number 0 (lines_end a b true) (omega arith) (lines_ended a b true))
+    (live_number 0 (lines_end a b false) (omega arith) (lines_ended a b false))
+
+live_bits : (a b : ℕ) → Live (bits_rest a b)
+live_bits a b =
+    live_signed 1 (bits_end a b true) (bits_end a b false)
+    (live_stopped 1 41 (λ n. ending (depth_line a b true n)) (omega arith) refl (λ n. live_over (10 ∷ []) (depth_line a b true n)))
+    (live_stopped 0 41 (λ n. ending (depth_line a b false n)) (omega arith) refl (λ n. live_over (10 ∷ []) (depth_line a b false n)))
+
+live_cost : (kind : Kind) (a b : ℕ) → Live (cost_rest (Cards kind) a b)
+live_cost Delay a b = live_lines a b
+live_cost Depth a b = live_bits a b
+
+live_card : (kind : Kind) → Live (word_rest (Cards kind) word.Card 1)
+live_card kind = live_fixed (codes "ard (") (from_rest (Cards kind) word.Card) (live_stopped 0 32 (to_rest (Cards kind) word.Card) (omega arith) refl
+    (λ a. live_stopped 0 41 (pair_end (Cards kind) word.Card a) (omega arith) refl (λ b. live_fixed (codes " ") (cost_rest (Cards kind) a b) (live_cost kind a b))))
+
+live_leg : Live (word_rest Legs word.Leg 1)
+live_leg = live_fixed (codes "eg (") (from_rest Legs word.Leg) (live_stopped 0 32 (to_rest Legs word.Leg) (omega arith) refl
+    (λ a. live_stopped 0 41 (pair_end Legs word.Leg a) (omega arith) refl (λ b. live_over (41 ∷ 10 ∷ []) (line.Leg a b))))
+
+live_end : Live (word_rest Legs word.End 1)
 live_end = live_over (110 ∷ 100 ∷ 41 ∷ 10 ∷ []) line.End
 
 live_legs : Live (first_rest Legs)
 live_legs = ((live_leg.0, live_leg.1, (live_end.0, live_end.1, tt)), tt)
 
-live_cards : Live (first_rest Cards)
-live_cards = ((live_card.0, live_card.1, live_legs.0), tt)
+live_cards : (kind : Kind) → Live (first_rest (Cards kind))
+live_cards kind = let k = live_card kind in ((k.0, k.1, live_legs.0), tt)
 
 fine_line : (stage : Stage) → Fine (line_rest stage)
 fine_line Start = (live_fixed (codes "(bay de") kind_choice live_kind).0
-fine_line Formats = (live_fixed (codes "(format ") number_rest (live_number 0 32 (λ k. code_rest k 0 []) (omega arith)
+fine_line Formats = (live_fixed (codes "(format ") number_rest (live_stopped 0 32 (λ k. code_rest k 0 []) (omega arith) refl
     (λ k. live_signs 4 (λ cs. closing (line.Format k cs)) (λ cs. live_over (41 ∷ 10 ∷ []) (line.Format k cs))))).0
-fine_line Cards = (live_fixed (codes "(") (first_rest Cards) live_cards).0
+fine_line (Cards kind) = (live_fixed (codes "(") (first_rest (Cards kind)) (live_cards kind)).0
 fine_line Legs = (live_fixed (codes "(") (first_rest Legs) live_legs).0
 
 -- before its last byte the reader waits
@@ -68,48 +113,57 @@ waits_reading : (value : Option ℕ) (stop : ℕ) (next : ℕ → Rest) → Wait
 waits_reading (Some n) stop next = tt
 waits_reading None stop next = tt
 
-waits_cost : (minus : Bool) (value : Option ℕ) (a b : ℕ) → Waits (cost_reading minus value a b)
-waits_cost true (Some n) a b = tt
-waits_cost true None a b = tt
-waits_cost false (Some n) a b = tt
-waits_cost false None a b = tt
+waits_lines : (minus : Bool) (value : Option ℕ) (a b : ℕ) → Waits (lines_reading minus value a b)
+waits_lines true (Some n) a b = tt
+waits_lines true None a b = tt
+waits_lines false (Some n) a b = tt
+waits_lines false None a b = tt
+
+waits_bits : (minus : Bool) (value : Option ℕ) (a b : ℕ) → Waits (bits_reading minus value a b)
+waits_bits true (Some n) a b = tt
+waits_bits true None a b = tt
+waits_bits false (Some n) a b = tt
+waits_bits false None a b = tt
 
 waits_first : (stage : Stage) → Waits (first_rest stage)
 waits_first Start = tt
 waits_first Formats = tt
-waits_first Cards = tt
+waits_first (Cards kind) = tt
 waits_first Legs = tt
 
-waits_word : (w : Word) → Waits (word_end w)
-waits_word word.Bay = tt
-waits_word word.Delay = tt
-waits_word word.Depth = tt
-waits_word word.Format = tt
-waits_word word.Card = tt
-waits_word word.Leg = tt
-waits_word word.End = tt
+waits_word : (stage : Stage) (w : Word) → Waits (word_end stage w)
+waits_word stage word.Bay = tt
+waits_word stage word.Delay = tt
+waits_word stage word.Depth = tt
+waits_word stage word.Format = tt
+waits_word stage word.Card = tt
+waits_word stage word.Leg = tt
+waits_word stage word.End = tt
 
-waits_pair : (w : Word) (a b : ℕ) → Waits (pair_end w a b)
-waits_pair word.Bay a b = tt
-waits_pair word.Delay a b = tt
-waits_pair word.Depth a b = tt
-waits_pair word.Format a b = tt
-waits_pair word.Card a b = tt
-waits_pair word.Leg a b = tt
-waits_pair word.End a b = tt
+waits_pair : (stage : Stage) (w : Word) (a b : ℕ) → Waits (pair_end stage w a b)
+waits_pair stage word.Bay a b = tt
+waits_pair stage word.Delay a b = tt
+waits_pair stage word.Depth a b = tt
+waits_pair stage word.Format a b = tt
+waits_pair stage word.Card a b = tt
+waits_pair stage word.Leg a b = tt
+waits_pair stage word.End a b = tt
 
 waits_at : (s : State) (r : Reader) → (s ≡ Over → ⊥) → Waits (rest_at s r)
 waits_at Opening r n = tt
 waits_at First r n = waits_first r.stage
-waits_at InWord r n = waits_fixed (drop r.at (letters_of r.word)) (word_end r.word) (waits_word r.word)
+waits_at InWord r n = waits_fixed (drop r.at (letters_of r.word)) (word_end r.stage r.word) (waits_word r.stage r.word)
 waits_at InKind r n = waits_fixed (drop r.at (codes "de")) kind_choice tt
 waits_at Pair r n = tt
 waits_at Size r n = waits_reading r.numeral.value 41 (λ n. ending (line.Bay r.kind n))
 waits_at Number r n = waits_reading r.numeral.value 32 (λ k. code_rest k 0 [])
-waits_at From r n = waits_reading r.numeral.value 32 (λ a. to_rest r.word a)
-waits_at To r n = waits_reading r.numeral.value 41 (λ b. pair_end r.word r.first b)
-waits_at PairEnd r n = waits_pair r.word r.first r.second
-waits_at Cost r n = waits_cost r.numeral.minus r.numeral.value r.first r.second
+waits_at From r n = waits_reading r.numeral.value 32 (λ a. to_rest r.stage r.word a)
+waits_at To r n = waits_reading r.numeral.value 41 (λ b. pair_end r.stage r.word r.first b)
+waits_at PairEnd r n = waits_pair r.stage r.word r.first r.second
+waits_at Lines r n = waits_lines r.numeral.minus r.numeral.value r.first r.second
+waits_at Point r n = tt
+waits_at Closing r n = tt
+waits_at Bits r n = waits_bits r.numeral.minus r.numeral.value r.first r.second
 waits_at InCode r n = waits_signs (4 - r.at) (λ cs. closing (line.Format r.first (take r.at r.code ++ cs))) (λ cs. tt)
 waits_at Ending r n = tt
 waits_at Over r n = absurd (n refl)
@@ -192,11 +246,11 @@ coded Formats (line.Format k code) h = h.1.0
 coded Formats (line.Card a b cost) h = tt
 coded Formats (line.Leg a b) h = tt
 coded Formats line.End h = tt
-coded Cards (line.Bay kind n) h = tt
-coded Cards (line.Format k code) h = absurd h
-coded Cards (line.Card a b cost) h = tt
-coded Cards (line.Leg a b) h = tt
-coded Cards line.End h = tt
+coded (Cards kind) (line.Bay other n) h = tt
+coded (Cards kind) (line.Format k code) h = absurd h
+coded (Cards kind) (line.Card a b cost) h = tt
+coded (Cards kind) (line.Leg a b) h = tt
+coded (Cards kind) line.End h = tt
 coded Legs (line.Bay kind n) h = tt
 coded Legs (line.Format k code) h = absurd h
 coded Legs (line.Card a b cost) h = tt

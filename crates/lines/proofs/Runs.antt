@@ -2,9 +2,9 @@
 -- Every rest that is not dead has a line that ends it.
 use Rattle.std.proofs.Common.{◌≡◌, ℕ, zero, suc, ◌+◌, ◌-◌, ◌*◌, ◌≤◌, Bool, true, false, cond, ◌&&◌, ◌||◌, eqb, leb, ◌⊎◌, List, [], ◌∷◌, ◌++◌, length, sym, refl, ap, ◌∙◌, subst, inl, inr, arith}
 use Rattle.std.specs.List.{AllByRecursion}
-use Rattle.std.proofs.lemmas.Bool.{eq-eqb, ne_eqb, eqb-true, le-leb, cond-true, cond-false, cases_Bool}
+use Rattle.std.proofs.lemmas.Bool.{eq-eqb, ne_eqb, eqb-true, le-leb, cond-true, cond-false, cases_Bool, both_ways}
 use Rattle.lines.specs.Signs.{digit, letter}
-use Rattle.lines.specs.Rests.{Rest, dead, over, on, number, digits, sign, after_byte, grows, fixed, signs}
+use Rattle.lines.specs.Rests.{Rest, dead, over, on, number, digits, sign, after_byte, grows, fixed, until, signs}
 use Rattle.lines.specs.declared.line.Line.{Line}
 
 abbrev pub run : Rest → List ℕ → Rest
@@ -23,8 +23,8 @@ abbrev pub IsOver : Rest → Type 0
 IsOver dead = ⊥
 IsOver (over l) = Unit {0}
 IsOver (on b r s) = ⊥
-IsOver (number low stop next) = ⊥
-IsOver (digits n stop next) = ⊥
+IsOver (number low next) = ⊥
+IsOver (digits n next) = ⊥
 IsOver (sign next) = ⊥
 
 pub not_dead : (bs : List ℕ) (l : Line) → run dead bs ≡ over l → ⊥
@@ -114,16 +114,29 @@ abbrev pub NotDead : Rest → Type 0
 NotDead dead = ⊥
 NotDead (over l) = Unit {0}
 NotDead (on b r s) = Unit {0}
-NotDead (number low stop next) = Unit {0}
-NotDead (digits n stop next) = Unit {0}
+NotDead (number low next) = Unit {0}
+NotDead (digits n next) = Unit {0}
 NotDead (sign next) = Unit {0}
+
+-- neither dead nor over
+abbrev pub Waits : Rest → Type 0
+Waits dead = ⊥
+Waits (over l) = ⊥
+Waits (on b r s) = Unit {0}
+Waits (number low next) = Unit {0}
+Waits (digits n next) = Unit {0}
+Waits (sign next) = Unit {0}
+
+-- no digit fits
+abbrev pub Undigited : Rest → Type 0
+Undigited r = (c : ℕ) → digit c ≡ true → after_byte r c ≡ dead
 
 abbrev pub Fine : Rest → Type 0
 Fine dead = Unit {0}
 Fine (over l) = Unit {0}
 Fine (on b r s) = Fine r × NotDead r × Fine s
-Fine (number low stop next) = (low ≤ 1) × ((n : ℕ) → Fine (next n) × NotDead (next n))
-Fine (digits n stop next) = (m : ℕ) → Fine (next m) × NotDead (next m)
+Fine (number low next) = (low ≤ 1) × ((n : ℕ) → Fine (next n) × Waits (next n) × Undigited (next n))
+Fine (digits n next) = (m : ℕ) → Fine (next m) × Waits (next m) × Undigited (next m)
 Fine (sign next) = (c : ℕ) → Fine (next c) × NotDead (next c)
 
 fine_cond : (b : Bool) (r s : Rest) → Fine r → Fine s → Fine (cond b r s)
@@ -134,10 +147,10 @@ pub fine_byte : (r : Rest) (c : ℕ) → Fine r → Fine (after_byte r c)
 fine_byte dead c h = tt
 fine_byte (over l) c h = tt
 fine_byte (on b r s) c h = fine_cond (eqb c b) r (after_byte s c) h.0 (fine_byte s c h.2)
-fine_byte (number low stop next) c h = fine_cond (digit c && leb low (c - 48)) (digits (c - 48) stop next) dead h.1 tt
-fine_byte (digits n stop next) c h =
-    let longer : Rest = digits (n * 10 + (c - 48)) stop next in
-    fine_cond (eqb c stop) (next n) (cond (digit c && grows n) longer dead) (h n).0 (fine_cond (digit c && grows n) longer dead h tt)
+fine_byte (number low next) c h = fine_cond (digit c && leb low (c - 48)) (digits (c - 48) next) dead h.1 tt
+fine_byte (digits n next) c h =
+    let longer : Rest = digits (n * 10 + (c - 48)) next in
+    fine_cond (digit c) (cond (grows n) longer dead) (after_byte (next n) c) (fine_cond (grows n) longer dead h tt) (fine_byte (next n) c (h n).0)
 fine_byte (sign next) c h = fine_cond (letter c || digit c) (next c) dead (h c).0 tt
 
 pub fine_run : (r : Rest) (bs : List ℕ) → Fine r → Fine (run r bs)
@@ -153,33 +166,37 @@ pub record Ends (r : Rest) : Type 0 where
 step_back : (r s : Rest) (c : ℕ) → after_byte r c ≡ s → Ends s → Ends r
 step_back r s c e k = record { line = k.line; rest = c ∷ k.rest; runs = ap (λ t. run t k.rest) e ∙ k.runs }
 
-pub ends : (r : Rest) → Fine r → NotDead r → Ends r
-ends dead h n = absurd n
-ends (over l) h n = record { line = l; rest = []; runs = refl }
-ends (on b r s) h n = step_back (on b r s) r b (cond-true (eqb b b) r (after_byte s b) (eq-eqb b b refl)) (ends r h.0 h.1)
-ends (number low stop next) h n =
-    step_back _ (digits 1 stop next) 49 (cond-true _ (digits 1 stop next) dead (le-leb low 1 h.0))
-    (step_back (digits 1 stop next) (next 1) stop (cond-true (eqb stop stop) (next 1) _ (eq-eqb stop stop refl)) (ends (next 1) (h.1 1).0 (h.1 1).1))
-ends (digits n stop next) h k =
-    step_back (digits n stop next) (next n) stop (cond-true (eqb stop stop) (next n) _ (eq-eqb stop stop refl)) (ends (next n) (h n).0 (h n).1)
-ends (sign next) h n = step_back (sign next) (next 97) 97 refl (ends (next 97) (h 97).0 (h 97).1)
-
--- neither dead nor over
-abbrev pub Waits : Rest → Type 0
-Waits dead = ⊥
-Waits (over l) = ⊥
-Waits (on b r s) = Unit {0}
-Waits (number low stop next) = Unit {0}
-Waits (digits n stop next) = Unit {0}
-Waits (sign next) = Unit {0}
-
 pub waits_not_dead : (r : Rest) → Waits r → NotDead r
 waits_not_dead dead h = h
 waits_not_dead (over l) h = tt
 waits_not_dead (on b r s) h = tt
-waits_not_dead (number low stop next) h = tt
-waits_not_dead (digits n stop next) h = tt
+waits_not_dead (number low next) h = tt
+waits_not_dead (digits n next) h = tt
 waits_not_dead (sign next) h = tt
+
+waits_not_over : (r : Rest) (l : Line) → Waits r → r ≡ over l → ⊥
+waits_not_over r l w e = subst Waits e w
+
+-- what follows a number ends it
+number_ends : (n : ℕ) (next : ℕ → Rest) → Waits (next n) → Undigited (next n) → Ends (next n) → Ends (digits n next)
+number_ends n next w u k = go k.line k.rest k.runs
+  where
+    go : (l : Line) (rest : List ℕ) → run (next n) rest ≡ over l → Ends (digits n next)
+    go l [] e = absurd (waits_not_over (next n) l w e)
+    go l (c ∷ rest) e = elim (cases_Bool (digit c)) [
+      | inl t ↦ absurd (not_dead rest l (sym (ap (λ r. run r rest) (u c t)) ∙ e))
+      | inr f ↦ record { line = l; rest = c ∷ rest; runs = ap (λ r. run r rest) (cond-false (digit c) _ (after_byte (next n) c) f) ∙ e }
+    ]
+
+pub ends : (r : Rest) → Fine r → NotDead r → Ends r
+ends dead h n = absurd n
+ends (over l) h n = record { line = l; rest = []; runs = refl }
+ends (on b r s) h n = step_back (on b r s) r b (cond-true (eqb b b) r (after_byte s b) (eq-eqb b b refl)) (ends r h.0 h.1)
+ends (number low next) h n =
+    step_back _ (digits 1 next) 49 (cond-true _ (digits 1 next) dead (le-leb low 1 h.0))
+    (number_ends 1 next (h.1 1).1 (h.1 1).2 (ends (next 1) (h.1 1).0 (waits_not_dead _ (h.1 1).1)))
+ends (digits n next) h k = number_ends n next (h n).1 (h n).2 (ends (next n) (h n).0 (waits_not_dead _ (h n).1))
+ends (sign next) h n = step_back (sign next) (next 97) 97 refl (ends (next 97) (h 97).0 (h 97).1)
 
 pub waits_fixed : (w : List ℕ) (r : Rest) → Waits r → Waits (fixed w r)
 waits_fixed [] r h = h
@@ -201,5 +218,15 @@ pub live_signs : (n : ℕ) (next : List ℕ → Rest) → ((cs : List ℕ) → L
 live_signs zero next h = h []
 live_signs (suc n) next h = (λ c. live_signs n (λ cs. next (c ∷ cs)) (λ cs. h (c ∷ cs)), tt)
 
-pub live_number : (low stop : ℕ) (next : ℕ → Rest) → low ≤ 1 → ((n : ℕ) → Live (next n)) → Live (number low stop next)
-live_number low stop next one h = ((one, h), tt)
+pub live_number : (low : ℕ) (next : ℕ → Rest) → low ≤ 1 → ((n : ℕ) → Fine (next n) × Waits (next n) × Undigited (next n)) → Live (number low next)
+live_number low next one h = ((one, h), tt)
+
+-- a byte that no digit is, and what follows it
+pub live_until : (stop : ℕ) (next : ℕ → Rest) → digit stop ≡ false → ((n : ℕ) → Live (next n)) → (n : ℕ) → Fine (until stop next n) × Waits (until stop next n) × Undigited (until stop next n)
+live_until stop next apart h n = (((h n).0, (h n).1, tt), tt, undigited)
+  where
+    undigited : Undigited (until stop next n)
+    undigited c d = cond-false (eqb c stop) (next n) dead (ne_eqb c stop (λ e. both_ways (digit c) (ap digit e ∙ apart) d))
+
+pub live_stopped : (low stop : ℕ) (next : ℕ → Rest) → low ≤ 1 → digit stop ≡ false → ((n : ℕ) → Live (next n)) → Live (number low (until stop next))
+live_stopped low stop next one apart h = live_number low (until stop next) one (live_until stop next apart h)

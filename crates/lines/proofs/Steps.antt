@@ -8,6 +8,7 @@ use Rattle.std.proofs.lemmas.Bool.Decides.{nat_tests}
 use Rattle.lines.specs.Signs.{digit, letter, sort_of}
 use Rattle.lines.specs.Rests.{Rest, dead, after_byte, fixed, signs, letters_of, word_end, word_rest, kind_choice, code_rest, closing, to_come, rest_at}
 use Rattle.lines.specs.declared.line.Line.TheVariants as line
+use Rattle.lines.specs.declared.line.Stage.{Stage}
 use Rattle.lines.specs.declared.reader.Reader.{Reader}
 use Rattle.lines.specs.declared.reader.State.{State}
 use Rattle.lines.specs.declared.reader.State.TheVariants.{InWord, InKind, InCode}
@@ -43,19 +44,19 @@ lettered Leg = refl
 lettered End = refl
 
 -- inside a word only a letter fits
-pub word_inside : (w : Word) (at c : ℕ) → at < length (letters_of w) → letter c ≡ false → after_byte (word_rest w at) c ≡ dead
-word_inside w at c l no_letter =
-    fixed_stops (letters_of w) at c (word_end w) l (λ e. let h = letter_at (letters_of w) at (lettered w) l in grind (arith, e))
+pub word_inside : (stage : Stage) (w : Word) (at c : ℕ) → at < length (letters_of w) → letter c ≡ false → after_byte (word_rest stage w at) c ≡ dead
+word_inside stage w at c l no_letter =
+    fixed_stops (letters_of w) at c (word_end stage w) l (λ e. let h = letter_at (letters_of w) at (lettered w) l in grind (arith, e))
 
 -- and after it a space or a closing sign
-pub word_after : (w : Word) (c : ℕ) → (c ≡ 32 → ⊥) → (c ≡ 41 → ⊥) → after_byte (word_end w) c ≡ dead
-word_after Bay c s t = grind (arith, nat_tests)
-word_after Delay c s t = grind (arith, nat_tests)
-word_after Depth c s t = grind (arith, nat_tests)
-word_after Format c s t = grind (arith, nat_tests)
-word_after Card c s t = grind (arith, nat_tests)
-word_after Leg c s t = grind (arith, nat_tests)
-word_after End c s t = grind (arith, nat_tests)
+pub word_after : (stage : Stage) (w : Word) (c : ℕ) → (c ≡ 32 → ⊥) → (c ≡ 41 → ⊥) → after_byte (word_end stage w) c ≡ dead
+word_after stage Bay c s t = grind (arith, nat_tests)
+word_after stage Delay c s t = grind (arith, nat_tests)
+word_after stage Depth c s t = grind (arith, nat_tests)
+word_after stage Format c s t = grind (arith, nat_tests)
+word_after stage Card c s t = grind (arith, nat_tests)
+word_after stage Leg c s t = grind (arith, nat_tests)
+word_after stage End c s t = grind (arith, nat_tests)
 
 -- one more sign of a code
 pub code_goes : (k at c : ℕ) (code : List ℕ) → length code ≡ 4 → at < 4 → (letter c || digit c) ≡ true → after_byte (code_rest k at code) c ≡ code_rest k (at + 1) (set code at c)
@@ -100,14 +101,14 @@ in_state r s e = ap (λ t. rest_at t r) e
 pub word_refuses : (r : Reader) (ls : List ℕ) (c : ℕ) → r.state ≡ InWord → ls ≡ letters_of r.word → r.at < length ls → letter c ≡ false → dead ≡ after_byte (to_come r) c
 word_refuses r ls c e f l n =
     let k : r.at < length (letters_of r.word) = omega (arith, ap length f) in
-    sym (ap (λ t. after_byte t c) (in_state r InWord e) ∙ word_inside r.word r.at c k n)
+    sym (ap (λ t. after_byte t c) (in_state r InWord e) ∙ word_inside r.stage r.word r.at c k n)
 
 -- any other sign
 pub word_stops : (r : Reader) (c : ℕ) → r.state ≡ InWord → (sort_of c ≡ Letter → ⊥) → (sort_of c ≡ Space → ⊥) → (sort_of c ≡ Close → ⊥) → dead ≡ after_byte (to_come r) c
 word_stops r c e n s t = elim (cases_lt r.at (length (letters_of r.word))) [
-  | inl l ↦ sym (ap (λ t. after_byte t c) (in_state r InWord e) ∙ word_inside r.word r.at c l (no_letter c n))
-  | inr l ↦ sym (ap (λ t. after_byte t c) (in_state r InWord e ∙ fixed_ends (letters_of r.word) r.at (word_end r.word) l)
-      ∙ word_after r.word c (no_space c s) (no_close c t))
+  | inl l ↦ sym (ap (λ t. after_byte t c) (in_state r InWord e) ∙ word_inside r.stage r.word r.at c l (no_letter c n))
+  | inr l ↦ sym (ap (λ t. after_byte t c) (in_state r InWord e ∙ fixed_ends (letters_of r.word) r.at (word_end r.stage r.word) l)
+      ∙ word_after r.stage r.word c (no_space c s) (no_close c t))
 ]
 
 -- The reader in a kind.

@@ -1,9 +1,11 @@
 -- The lines of a ticket as texts, which of them are allowed where, and what it is to read one.
 -- A line is one form and a line end; one space stands between words, and none elsewhere.
-use Rattle.std.specs.Prelude.{◌≡◌, ℕ, ◌+◌, ◌-◌, ◌<◌, ◌≤◌, true, ◌||◌, ◌⊎◌, List, [], ◌∷◌, ◌++◌, length, take, drop, Ok, Err, codes, decimal, Result, unsigned_abs}
+use Rattle.std.specs.Prelude.{◌≡◌, ℕ, suc, ◌+◌, ◌-◌, ◌*◌, ◌/◌, ◌%◌, ◌<◌, ◌≤◌, true, cond, ◌||◌, ◌⊎◌, List, [], ◌∷◌, ◌++◌, length, take, drop, ℤ, pos, negsuc, Ok, Err, codes, decimal, Result, unsigned_abs, ◌==◌}
 use Rattle.std.specs.Fmt.{signed_decimal}
 use Rattle.std.specs.List.{AllByRecursion}
 use Rattle.lines.specs.Signs.{digit, letter, line_end}
+use Rattle.lines.specs.declared.line.Amount.{Amount}
+use Rattle.lines.specs.declared.line.Amount.TheVariants.{HalfLines, Bits}
 use Rattle.lines.specs.declared.line.Kind.{Kind}
 use Rattle.lines.specs.declared.line.Kind.TheVariants.{Delay, Depth}
 use Rattle.lines.specs.declared.line.Line.{Line}
@@ -17,17 +19,37 @@ abbrev pub kind_text : Kind → List ℕ
 kind_text Delay = codes "delay"
 kind_text Depth = codes "depth"
 
--- What a line looks like. Numbers are written in digits with no zero in front, and a cost below 0 has a minus.
+-- The text of a delay, in tickets and in answers: sign, whole lines, and `.5` where the number of half lines is odd.
+abbrev pub lines_text : ℕ → List ℕ
+lines_text h = decimal (h / 2) ++ cond (h % 2 == 1) (codes ".5") []
+
+abbrev pub delay_text : ℤ → List ℕ
+delay_text (pos h) = lines_text h
+delay_text (negsuc h) = codes "-" ++ lines_text (suc h)
+
+-- the text of a cost
+abbrev pub amount_text : Amount → List ℕ
+amount_text (HalfLines z) = delay_text z
+amount_text (Bits z) = signed_decimal z
+
+-- What a line looks like. Numbers are written in digits with no zero in front.
 abbrev pub line_text : Line → List ℕ
 line_text (Bay kind n) = codes "(bay " ++ (kind_text kind ++ (codes " " ++ (decimal n ++ (codes ")" ++ (line_end ∷ [])))))
 line_text (Format k code) = codes "(format " ++ (decimal k ++ (codes " " ++ (code ++ (codes ")" ++ (line_end ∷ [])))))
-line_text (Card a b cost) = codes "(card (" ++ (decimal a ++ (codes " " ++ (decimal b ++ (codes ") " ++ (signed_decimal cost ++ (codes ")" ++ (line_end ∷ [])))))))
+line_text (Card a b cost) = codes "(card (" ++ (decimal a ++ (codes " " ++ (decimal b ++ (codes ") " ++ (amount_text cost ++ (codes ")" ++ (line_end ∷ [])))))))
 line_text (Leg a b) = codes "(leg (" ++ (decimal a ++ (codes " " ++ (decimal b ++ (codes "))" ++ (line_end ∷ [])))))
 line_text End = codes "(end)" ++ (line_end ∷ [])
 
 -- a number has at most seven digits
 abbrev pub too_large : ℕ
 too_large = 10_000_000
+
+-- a cost as a bay of the kind has it: a delay with so many whole lines, a depth with so many bits
+abbrev pub AmountOf : Kind → Amount → Type 0
+AmountOf Delay (HalfLines z) = unsigned_abs z / 2 < too_large
+AmountOf Delay (Bits z) = ⊥
+AmountOf Depth (HalfLines z) = ⊥
+AmountOf Depth (Bits z) = unsigned_abs z < too_large
 
 -- four letters or digits
 abbrev pub Code : List ℕ → Type 0
@@ -45,11 +67,11 @@ Allowed Formats (Format k code) = (k < too_large) × Code code
 Allowed Formats (Card a b cost) = ⊥
 Allowed Formats (Leg a b) = ⊥
 Allowed Formats End = ⊥
-Allowed Cards (Bay kind n) = ⊥
-Allowed Cards (Format k code) = ⊥
-Allowed Cards (Card a b cost) = (a < too_large) × (b < too_large) × (unsigned_abs cost < too_large)
-Allowed Cards (Leg a b) = (a < too_large) × (b < too_large)
-Allowed Cards End = Unit {0}
+Allowed (Cards kind) (Bay other n) = ⊥
+Allowed (Cards kind) (Format k code) = ⊥
+Allowed (Cards kind) (Card a b cost) = (a < too_large) × (b < too_large) × AmountOf kind cost
+Allowed (Cards kind) (Leg a b) = (a < too_large) × (b < too_large)
+Allowed (Cards kind) End = Unit {0}
 Allowed Legs (Bay kind n) = ⊥
 Allowed Legs (Format k code) = ⊥
 Allowed Legs (Card a b cost) = ⊥

@@ -1,7 +1,7 @@
 -- The signs that a ticket is written with, and the sort of each.
 use Rattle.std.specs.Prelude.{ℕ, Bool, cond, ◌&&◌, ◌||◌, ◌==◌, nat_le}
 use Rattle.lines.specs.declared.sort.Sort.{Sort}
-use Rattle.lines.specs.declared.sort.Sort.TheVariants.{Open, Close, Space, Minus, Digit, Letter, LineEnd, Strange}
+use Rattle.lines.specs.declared.sort.Sort.TheVariants.{Open, Close, Space, Minus, Point, Digit, Letter, LineEnd, Strange}
 
 abbrev pub between : ℕ → ℕ → ℕ → Bool
 between low high c = nat_le low c && nat_le c high
@@ -23,6 +23,7 @@ sort_of c =
     cond (c == 41) Close (
     cond (c == 32) Space (
     cond (c == 45) Minus (
+    cond (c == 46) Point (
     cond (digit c) Digit (
     cond (letter c) Letter (
-    cond (c == line_end) LineEnd Strange))))))
+    cond (c == line_end) LineEnd Strange)))))))

@@ -7,6 +7,6 @@ mod reader;
 mod sort;
 mod words;
 
-pub use line::{Kind, Line, Read, Stage, Unfit};
+pub use line::{Amount, Kind, Line, Read, Stage, Unfit};
 pub use reader::read_line;
 pub use words::same_bytes;

@@ -7,23 +7,43 @@ pub enum Kind {
     Depth,
 }
 
+// The number that a card line has for a cost, in the unit of the bay's kind.
+#[derive(Clone, Copy, Debug, PartialEq, Eq)]
+pub enum Amount {
+    HalfLines(i32),
+    Bits(i32),
+}
+
 // What a line says.
 #[derive(Clone, Copy, Debug)]
 pub enum Line {
-    Bay { kind: Kind, size: usize },
-    Format { number: usize, code: [u8; 4] },
-    Card { from: usize, to: usize, cost: i32 },
-    Leg { from: usize, to: usize },
+    Bay {
+        kind: Kind,
+        size: usize,
+    },
+    Format {
+        number: usize,
+        code: [u8; 4],
+    },
+    Card {
+        from: usize,
+        to: usize,
+        cost: Amount,
+    },
+    Leg {
+        from: usize,
+        to: usize,
+    },
     End,
 }
 
 // Where in a ticket a line stands: first of all; after the bay line, while formats are still to come;
-// after the last format; after the first leg.
+// after the last format, in a bay of this kind; after the first leg.
 #[derive(Clone, Copy, Debug, PartialEq, Eq)]
 pub enum Stage {
     Start,
     Formats,
-    Cards,
+    Cards(Kind),
     Legs,
 }
 

@@ -1,6 +1,6 @@
 // A number of a line, digit by digit.
 ghost use Rattle.std.specs.Option.{ForSome};
-ghost use Rattle.std.specs.Prelude.{◌<◌};
+ghost use Rattle.std.specs.Prelude.{◌*◌, ◌<◌};
 ghost use Rattle.lines.specs.Grammar.{too_large};
 
 // What was read of a number: whether a minus stands in front, and the value of its digits so far, if any.
@@ -15,7 +15,7 @@ pub struct Numeral {
 impl Numeral {
     ghost use Rattle.std.specs.Prelude.{◌≡◌, false, true, None, if◌then◌else◌};
     ghost use Rattle.lines.specs.Signs.{digit};
-    ghost use Rattle.lines.specs.Rests.{takes_digit, with_digit};
+    ghost use Rattle.lines.specs.Rests.{signed, takes_digit, with_digit};
 
     // Before its first sign.
     pub fn new() -> Numeral
@@ -43,5 +43,14 @@ impl Numeral {
             Some(value) => Some(value * 10 + digit),
         };
         true
+    }
+
+    // So many, below 0 where a minus stands in front.
+    pub fn signed(&self, count: u32) -> i32
+        requires { count < 2 * too_large }
+        ensures { result ≡ signed self.now.minus count }
+    {
+        let count = count as i32;
+        if self.minus { -count } else { count }
     }
 }

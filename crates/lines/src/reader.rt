@@ -1,16 +1,18 @@
 // The line reader: it takes the bytes of a line one by one, and knows at each what may still come.
 ghost use Rattle.std.specs.Prelude.{◌≡◌, ◌+◌, true, false, ◌||◌, length, None, if◌then◌else◌};
 ghost use Rattle.lines.specs.Signs.{digit, letter};
+ghost use Rattle.lines.specs.declared.line.Line.TheVariants.{Card};
 ghost use Rattle.lines.specs.declared.reader.State.TheVariants.{InWord, InKind, PairEnd, InCode, Ending};
 ghost use Rattle.lines.specs.Grammar.{line_text, FourSigns, number_begins, code_begins, ReadLine, Alone};
 ghost use Rattle.lines.specs.Rests.{line_rest, to_come, left, after_byte, takes_letter, with_letter};
 
-use crate::line::{Kind, Line, Read, Stage, Unfit};
+use crate::line::{Amount, Kind, Line, Read, Stage, Unfit};
 use crate::numeral::Numeral;
 use crate::sort::{Sort, sort_of};
 use crate::words::{Word, word_by};
 
-// What is being read. In a word or a code, `at` says how far.
+// What is being read. In a word or a code, `at` says how far. A delay is read as whole lines, with a point and a 5 after them for half
+// a line, and a depth as bits.
 #[derive(Clone, Copy, Debug, PartialEq, Eq)]
 pub enum State {
     Opening,
@@ -23,7 +25,10 @@ pub enum State {
     From,
     To,
     PairEnd,
-    Cost,
+    Lines,
+    Point,
+    Closing,
+    Bits,
     InCode,
     Ending,
     Over,
@@ -177,10 +182,25 @@ impl Reader {
             }
             (Word::Leg, _) => false,
             (_, b' ') => {
-                self.begin(State::Cost);
+                // The kind is that of the bay line.
+                match self.stage {
+                    Stage::Cards(Kind::Delay) => self.begin(State::Lines),
+                    _ => self.begin(State::Bits),
+                }
                 true
             }
             _ => false,
+        }
+    }
+
+    // The card line with this cost.
+    fn card(&self, cost: Amount) -> Line
+        ensures { result ≡ Card self.now.first self.now.second cost }
+    {
+        Line::Card {
+            from: self.first as usize,
+            to: self.second as usize,
+            cost,
         }
     }
 
@@ -264,24 +284,50 @@ impl Reader {
                 true
             }
             (State::PairEnd, Sort::Space | Sort::Close) => self.leave_pair(sign),
-            (State::Cost, Sort::Minus) if self.numeral.value.is_none() && !self.numeral.minus => {
+            (State::Lines | State::Bits, Sort::Minus)
+                if self.numeral.value.is_none() && !self.numeral.minus => {
                 self.numeral.minus = true;
                 true
             }
-            (State::Cost, Sort::Digit)
+            (State::Lines, Sort::Digit) => self.numeral.digit(sign),
+            (State::Lines, Sort::Point) => {
+                let Some(lines) = self.numeral.value else {
+                    return false;
+                };
+                let half_lines = self.numeral.signed(2 * lines + 1);
+                self.line = self.card(Amount::HalfLines(half_lines));
+                self.state = State::Point;
+                true
+            }
+            (State::Point, Sort::Digit) if sign == b'5' => {
+                self.state = State::Closing;
+                true
+            }
+            (State::Closing, Sort::Close) => {
+                self.state = State::Ending;
+                true
+            }
+            (State::Lines, Sort::Close) => {
+                let Some(lines) = self.numeral.value else {
+                    return false;
+                };
+                if self.numeral.minus && lines == 0 {
+                    return false;
+                }
+                let half_lines = self.numeral.signed(2 * lines);
+                self.finish(self.card(Amount::HalfLines(half_lines)));
+                true
+            }
+            (State::Bits, Sort::Digit)
                 if self.numeral.value.is_some() || !self.numeral.minus || sign != b'0' => {
                 self.numeral.digit(sign)
             }
-            (State::Cost, Sort::Close) => {
-                let Some(size) = self.numeral.value else {
+            (State::Bits, Sort::Close) => {
+                let Some(bits) = self.numeral.value else {
                     return false;
                 };
-                let size = size as i32;
-                self.finish(Line::Card {
-                    from: self.first as usize,
-                    to: self.second as usize,
-                    cost: if self.numeral.minus { -size } else { size },
-                });
+                let bits = self.numeral.signed(bits);
+                self.finish(self.card(Amount::Bits(bits)));
                 true
             }
             (State::InCode, Sort::Letter | Sort::Digit) => self.code_sign(sign),

@@ -38,9 +38,9 @@ pub fn word_by(stage: Stage, letter: u8) -> Option<Word>
     match (stage, letter) {
         (Stage::Start, b'b') => Some(Word::Bay),
         (Stage::Formats, b'f') => Some(Word::Format),
-        (Stage::Cards, b'c') => Some(Word::Card),
-        (Stage::Cards | Stage::Legs, b'l') => Some(Word::Leg),
-        (Stage::Cards | Stage::Legs, b'e') => Some(Word::End),
+        (Stage::Cards(_), b'c') => Some(Word::Card),
+        (Stage::Cards(_) | Stage::Legs, b'l') => Some(Word::Leg),
+        (Stage::Cards(_) | Stage::Legs, b'e') => Some(Word::End),
         _ => None,
     }
 }

@@ -9,6 +9,7 @@ use Rattle.lines.specs.declared.line.Kind.{Kind}
 use Rattle.lines.specs.declared.line.Kind.TheVariants as kind
 use Rattle.ticket.specs.Answers.{Contents, HasBay, KindAnswer, BayAnswer}
 use Rattle.ticket.specs.Faults.{ticket_code}
+use Rattle.ticket.specs.Kinds.{read_as}
 use Rattle.ticket.specs.Texts.{CostTexts, delay_texts, depth_texts}
 use Rattle.ticket.specs.Said.{ticket_entries}
 use Rattle.ticket.specs.declared.fault.Refusal.{Refusal}
@@ -36,7 +37,7 @@ WholeIf K T text bay m (Err refusal) = Unit {0}
 -- and its answer's text, from what is then in the memory, is printed into the place.
 pub record Answered {C : Type 0} (K : CostKind C) (T : CostTexts C) (text : List ℕ) (bay : BayLine) (m m' : Contents C) (place place' : List ℕ) (r : Result ℕ PlaceShort) : Type 0 where
   pub answer : Result ℕ Refusal
-  pub right : KindAnswer K T.reads text bay.end m m' answer bay.size
+  pub right : KindAnswer K (read_as bay.kind T.reads) text bay.end m m' answer bay.size
   pub whole : WholeIf K T text bay m' answer
   pub printed : Printed place place' (text_from T.writes m' answer) r
 

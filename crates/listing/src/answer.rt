@@ -1,17 +1,18 @@
 // The text of an answer, whole.
-ghost use Rattle.std.specs.Prelude.{◌≡◌, ◌==◌, map, pos, slice_index_or};
+ghost use Rattle.std.specs.Prelude.{◌≡◌, ◌==◌, map, slice_index_or};
 ghost use Rattle.ticket.specs.Answers.{SameMemory, contents};
 ghost use Rattle.ticket.specs.Faults.{ticket_code};
 ghost use Rattle.ticket.specs.Texts.{texts};
 ghost use Rattle.listing.specs.Answered.{Answered};
 ghost use Rattle.listing.specs.Output.{Writes, Printed};
 ghost use Rattle.listing.specs.Text.{answer_text, code_line, listing_text, loop_number, loop_text};
-ghost use Rattle.listing.specs.Text.{refusal_text, text_from};
+ghost use Rattle.listing.specs.Text.{no_amount, refusal_text, text_from};
 
 use crate::output::Output;
 use crate::text::{put_code_line, put_codes, put_leg, row_formats};
 use bay::BayFault;
 use costs::Cost;
+use lines::Amount;
 use ticket::{
     BayLine, Ends, FourCc, MOST_CODES, MOST_LEGS, Memory, Refusal, TicketCost, TicketFault,
     route_ticket,
@@ -26,11 +27,11 @@ pub struct View<'a, C> {
     pub ends: &'a [Ends; MOST_LEGS],
 }
 
-// The number that stands for cost `k` of the sheet.
-fn number_at<C: TicketCost>(costs: &[C], k: usize) -> i32
-    ensures { result ≡ slice_index_or (map C.writes costs.now) k (pos 0) }
+// The amount that stands for cost `k` of the sheet.
+fn amount_at<C: TicketCost>(costs: &[C], k: usize) -> Amount
+    ensures { result ≡ slice_index_or (map C.writes costs.now) k no_amount }
 {
-    costs.get(k).map_or(0, |cost| cost.number())
+    costs.get(k).map_or(Amount::HalfLines(0), |cost| cost.amount())
 }
 
 // A line for each leg, and the end line.
@@ -39,7 +40,7 @@ fn put_listing<C: TicketCost>(out: &mut Output, view: &View<'_, C>, legs: usize)
         (map C.writes view.now.costs.now) view.now.chains.now legs) }
 {
     for (k, leg) in view.ends[..legs.min(MOST_LEGS)].iter().enumerate() {
-        let cost = number_at(view.costs, k);
+        let cost = amount_at(view.costs, k);
         put_leg(out, view.codes, k, *leg, cost, row_formats(view.chains, k));
     }
     out.put(b"(end)");

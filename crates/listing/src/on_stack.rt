@@ -36,7 +36,7 @@ macro_rules! answered {
 fn answer_delays(text: &[u8], bay: BayLine, place: &mut [u8]) -> Result<usize, PlaceShort>
     ensures { ListedOf delays delay_texts text.now bay place.old place.new result }
 {
-    answered!(Delay { lines: 0 }, text, bay, place)
+    answered!(Delay { half_lines: 0 }, text, bay, place)
 }
 
 #[inline(never)]

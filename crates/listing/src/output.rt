@@ -2,7 +2,10 @@
 // `fmt::Write`: a code is four bytes that need not be text, and each write would have an error that cannot come.
 ghost use Rattle.std.specs.Prelude.{◌≡◌, [], decimal};
 ghost use Rattle.std.specs.Fmt.{signed_decimal};
+ghost use Rattle.lines.specs.Grammar.{amount_text, delay_text, lines_text};
 ghost use Rattle.listing.specs.Output.{Holds, Writes};
+
+use lines::Amount;
 
 // A place of bytes, and how many bytes the text has that was written so far.
 pub struct Output<'a> {
@@ -51,12 +54,42 @@ impl<'a> Output<'a> {
     }
 
     // A number with its sign, if it is below 0.
-    pub fn put_signed(&mut self, z: i32)
+    fn put_signed(&mut self, z: i32)
         ensures { Writes self.old self.new (signed_decimal z) }
     {
         if z.is_negative() {
             self.put(b"-");
         }
         self.put_number(z.unsigned_abs() as usize);
+    }
+
+    // So many half lines: the whole lines, and half a line where one is left.
+    fn put_lines(&mut self, half_lines: usize)
+        ensures { Writes self.old self.new (lines_text half_lines) }
+    {
+        self.put_number(half_lines / 2);
+        if half_lines % 2 == 1 {
+            self.put(b".5");
+        }
+    }
+
+    // A delay: its sign, if it is below 0, and its lines.
+    fn put_delay(&mut self, half_lines: i32)
+        ensures { Writes self.old self.new (delay_text half_lines) }
+    {
+        if half_lines.is_negative() {
+            self.put(b"-");
+        }
+        self.put_lines(half_lines.unsigned_abs() as usize);
+    }
+
+    // A cost, as its kind is written.
+    pub fn put_amount(&mut self, amount: Amount)
+        ensures { Writes self.old self.new (amount_text amount) }
+    {
+        match amount {
+            Amount::HalfLines(half_lines) => self.put_delay(half_lines),
+            Amount::Bits(bits) => self.put_signed(bits),
+        }
     }
 }

@@ -7,6 +7,7 @@ ghost use Rattle.listing.specs.Text.{formats_of, fourcc_text, fourccs_text, foun
 
 use crate::output::Output;
 use bay::ROW;
+use lines::Amount;
 use registers::{Code, Layer};
 use ticket::{Ends, FourCc, MOST_CODES};
 
@@ -47,14 +48,14 @@ pub(crate) fn put_codes(out: &mut Output, codes: &[FourCc; MOST_CODES], formats:
 }
 
 // What was found for a leg.
-fn put_found(out: &mut Output, codes: &[FourCc; MOST_CODES], cost: i32, formats: &[u8])
+fn put_found(out: &mut Output, codes: &[FourCc; MOST_CODES], cost: Amount, formats: &[u8])
     ensures { Writes out.old out.new (found_text codes.now cost formats.now) }
 {
     if formats.is_empty() {
         out.put(b"none");
         return;
     }
-    out.put_signed(cost);
+    out.put_amount(cost);
     out.put(b" (");
     put_codes(out, codes, formats);
     out.put(b")");
@@ -66,7 +67,7 @@ pub(crate) fn put_leg(
     codes: &[FourCc; MOST_CODES],
     k: usize,
     ends: Ends,
-    cost: i32,
+    cost: Amount,
     formats: &[u8],
 )
     ensures { Writes out.old out.new (leg_text codes.now k ends cost formats.now) }

@@ -11,38 +11,38 @@ house_size = 8
 abbrev pub house_places : ℕ
 house_places = house_size * house_size
 
--- so many lines
+-- so many half lines
 abbrev p : ℕ → Option ℤ
 p n = Some (pos n)
 
--- one line given back
+-- a line given back
 abbrev back : Option ℤ
-back = Some (negsuc 0)
+back = Some (negsuc 1)
 
 -- no card
 abbrev o : Option ℤ
 o = None
 
--- a row for each format as `from`, a column for each as `to`
+-- half lines: a row for each format as `from`, a column for each as `to`
 abbrev pub house_cards : List (Option ℤ)
 house_cards =
-    o ∷ p 4 ∷ p 1 ∷ p 5 ∷ o ∷ o ∷ p 4 ∷ o ∷
-    back ∷ o ∷ o ∷ o ∷ o ∷ p 2 ∷ p 1 ∷ o ∷
-    p 1 ∷ o ∷ o ∷ o ∷ o ∷ o ∷ o ∷ o ∷
-    back ∷ o ∷ o ∷ o ∷ p 2 ∷ p 2 ∷ o ∷ o ∷
+    o ∷ p 8 ∷ p 2 ∷ p 10 ∷ o ∷ o ∷ p 8 ∷ o ∷
+    back ∷ o ∷ o ∷ o ∷ o ∷ p 4 ∷ p 2 ∷ o ∷
+    p 2 ∷ o ∷ o ∷ o ∷ o ∷ o ∷ o ∷ o ∷
+    back ∷ o ∷ o ∷ o ∷ p 4 ∷ p 4 ∷ o ∷ o ∷
     o ∷ o ∷ o ∷ back ∷ o ∷ o ∷ o ∷ o ∷
-    o ∷ p 0 ∷ o ∷ p 1 ∷ o ∷ o ∷ o ∷ o ∷
-    p 2 ∷ o ∷ o ∷ o ∷ o ∷ o ∷ o ∷ p 0 ∷
-    o ∷ o ∷ o ∷ o ∷ p 7 ∷ o ∷ p 0 ∷ o ∷ []
+    o ∷ p 0 ∷ o ∷ p 2 ∷ o ∷ o ∷ o ∷ o ∷
+    p 4 ∷ o ∷ o ∷ o ∷ o ∷ o ∷ o ∷ p 0 ∷
+    o ∷ o ∷ o ∷ o ∷ p 14 ∷ o ∷ p 0 ∷ o ∷ []
 
 -- the number that stands for a card in the table: no card is the least of 32 bits
 abbrev pub number : Option ℤ → ℤ
 number None = negsuc 2_147_483_647
 number (Some z) = z
 
--- a delay of so many lines
+-- a delay of so many half lines
 abbrev pub delayed : ℤ → Delay
-delayed z = record { lines = z }
+delayed z = record { half_lines = z }
 
 abbrev pub house : Meaning Delay
 house = record {

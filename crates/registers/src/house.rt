@@ -1,7 +1,7 @@
 // The house table: the delays of our own converters, which nobody changes.
 ghost use Rattle.std.specs.Prelude.{◌≡◌, ◌<◌, true, IfSome, None, nat_le, slice_index_or, unsigned_abs};
 ghost use Rattle.std.specs.Option.{option_map};
-ghost use Rattle.costs.specs.Delay.{most_lines};
+ghost use Rattle.costs.specs.Delay.{most_half_lines};
 ghost use Rattle.registers.specs.House.{house, house_places, house_cards, number, delayed};
 
 use crate::judge::{judge_ends, judge_entry};
@@ -13,17 +13,17 @@ const HOUSE_SIZE: usize = 8;
 // No card. A rule of the project keeps the table one flat constant array of plain numbers, so a number stands for none.
 const NO: i32 = i32::MIN;
 
-// Lines of delay, row by row: a row for each format as `from`, a column for each as `to`.
+// Half lines of delay, row by row: a row for each format as `from`, a column for each as `to`.
 #[rattlefmt::skip]
 const HOUSE: [i32; HOUSE_SIZE * HOUSE_SIZE] = [
-    NO, 4, 1, 5, NO, NO, 4, NO,
-    -1, NO, NO, NO, NO, 2, 1, NO,
-    1, NO, NO, NO, NO, NO, NO, NO,
-    -1, NO, NO, NO, 2, 2, NO, NO,
-    NO, NO, NO, -1, NO, NO, NO, NO,
-    NO, 0, NO, 1, NO, NO, NO, NO,
-    2, NO, NO, NO, NO, NO, NO, 0,
-    NO, NO, NO, NO, 7, NO, 0, NO,
+    NO, 8, 2, 10, NO, NO, 8, NO,
+    -2, NO, NO, NO, NO, 4, 2, NO,
+    2, NO, NO, NO, NO, NO, NO, NO,
+    -2, NO, NO, NO, 4, 4, NO, NO,
+    NO, NO, NO, -2, NO, NO, NO, NO,
+    NO, 0, NO, 2, NO, NO, NO, NO,
+    4, NO, NO, NO, NO, NO, NO, 0,
+    NO, NO, NO, NO, 14, NO, 0, NO,
 ];
 
 // The house table as a register: every pair is sealed.
@@ -42,13 +42,13 @@ fn number_at(place: usize) -> i32
 fn delay_at(place: usize) -> Option<Delay>
     requires { place < house_places }
     ensures value { result ≡ option_map delayed (slice_index_or house_cards place None) }
-    ensures admitted { IfSome result (λ x. nat_le (unsigned_abs x.lines) most_lines ≡ true) }
+    ensures admitted { IfSome result (λ x. nat_le (unsigned_abs x.half_lines) most_half_lines ≡ true) }
 {
-    let lines = number_at(place);
-    if lines == NO {
+    let half_lines = number_at(place);
+    if half_lines == NO {
         None
     } else {
-        Some(Delay { lines })
+        Some(Delay { half_lines })
     }
 }
 

@@ -1,5 +1,5 @@
 -- Lines after lines, and the codes in the front of their place.
-use Rattle.std.proofs.Common.{◌≡◌, ℕ, ◌≤◌, true, leb, List, [], ◌∷◌, ◌++◌, length, take, drop, ℤ, None, Option, Result, sym, refl, ap, ◌∙◌, subst, inl, inr, arith}
+use Rattle.std.proofs.Common.{◌≡◌, ℕ, ◌≤◌, true, leb, List, [], ◌∷◌, ◌++◌, length, take, drop, None, Option, Result, sym, refl, ap, ◌∙◌, subst, inl, inr, arith}
 use Rattle.std.proofs.lemmas.List.{take-append-drop}
 use Rattle.std.proofs.lemmas.Slice.{drop-append-drop}
 use Rattle.std.proofs.lemmas.Bool.{and_parts, and_from, not-false, ltb-false, leb-true}
@@ -12,6 +12,7 @@ use Rattle.lent.specs.declared.list.Entry.{Entry}
 use Rattle.bay.specs.declared.cells.Cell.{Cell}
 use Rattle.lines.specs.declared.line.Read.{Read}
 use Rattle.registers.specs.Fault.{first_cause}
+use Rattle.ticket.specs.Kinds.{ReadAs}
 use Rattle.ticket.specs.Answers.{Contents, LinesAnswer}
 use Rattle.ticket.specs.Faults.{Told}
 use Rattle.bay.specs.Buffers.{in_front}
@@ -24,15 +25,15 @@ pub front_is : {X : Type 0} (n : ℕ) (new old : List X) → length (take n new)
 front_is n new old long beyond =
     sym (take-append-drop n new) ∙ ap (λ t. take n new ++ t) beyond ∙ ap (λ k. take n new ++ drop k old) (sym long)
 
-module _ {C : Type 0} (K : Kind C) (cost_of : ℤ → C) (text : List ℕ) where
+module _ {C : Type 0} (K : Kind C) (R : ReadAs C) (text : List ℕ) where
   through_append : (s : Said K) (from : ℕ) (lines : List Read) (place : ℕ) (then : Said K) (more : List Read) (end : ℕ) (last : Said K) →
-      Through K cost_of text s from lines place then → Through K cost_of text then place more end last → Through K cost_of text s from (lines ++ more) end last
+      Through K R text s from lines place then → Through K R text then place more end last → Through K R text s from (lines ++ more) end last
   through_append s from [] place then more end last t u =
-      subst (λ x. Through K cost_of text x from more end last) (sym t.1) (subst (λ x. Through K cost_of text then x more end last) (sym t.0) u)
-  through_append s from (l ∷ lines) place then more end last t u = (t.0, t.1, through_append (adds K cost_of s l.line) l.end lines place then more end last t.2 u)
+      subst (λ x. Through K R text x from more end last) (sym t.1) (subst (λ x. Through K R text then x more end last) (sym t.0) u)
+  through_append s from (l ∷ lines) place then more end last t u = (t.0, t.1, through_append (adds K R s l.line) l.end lines place then more end last t.2 u)
 
-  module _ (s : Said K) (from : ℕ) (lines : List Read) (place : ℕ) (then : Said K) (through : Through K cost_of text s from lines place then) where
-    pub stops_after : (t : Told) → Stops K cost_of text then place t → Stops K cost_of text s from t
+  module _ (s : Said K) (from : ℕ) (lines : List Read) (place : ℕ) (then : Said K) (through : Through K R text s from lines place then) where
+    pub stops_after : (t : Told) → Stops K R text then place t → Stops K R text s from t
     stops_after t r = record {
       lines = lines ++ r.lines;
       place = r.place;
@@ -41,7 +42,7 @@ module _ {C : Type 0} (K : Kind C) (cost_of : ℤ → C) (text : List ℕ) where
       refused = r.refused;
     }
 
-    pub completes_after : (end : ℕ) (last : Said K) → Completes K cost_of text then place end last → Completes K cost_of text s from end last
+    pub completes_after : (end : ℕ) (last : Said K) → Completes K R text then place end last → Completes K R text s from end last
     completes_after end last r = record {
       lines = lines ++ r.lines;
       through = through_append s from lines place then r.lines end last through r.through;
@@ -72,10 +73,10 @@ module _ {C : Type 0} (K : Kind C) where
       ∙ ap (λ b. meant K (begun n b ticket_entries)) (and_from (size_fits n) (entries_fit ticket_entries) fits refl)
 
 -- what the lines are answered has nothing to do with the entries
-pub lines_with_entries : {C : Type 0} (K : Kind C) (cost_of : ℤ → C) (text : List ℕ) (from : ℕ) (entries entries' : List (Option (Entry C))) (m m' : Contents C) (answer : Result ℕ Refusal) (s then : Said K) → s ≡ then →
-    LinesAnswer K cost_of text from m m' answer s → LinesAnswer K cost_of text from (record m { entries = entries }) (record m' { entries = entries' }) answer then
-lines_with_entries K cost_of text from entries entries' m m' answer s then e lines =
-    subst (LinesAnswer K cost_of text from (record m { entries = entries }) (record m' { entries = entries' }) answer) e
+pub lines_with_entries : {C : Type 0} (K : Kind C) (R : ReadAs C) (text : List ℕ) (from : ℕ) (entries entries' : List (Option (Entry C))) (m m' : Contents C) (answer : Result ℕ Refusal) (s then : Said K) → s ≡ then →
+    LinesAnswer K R text from m m' answer s → LinesAnswer K R text from (record m { entries = entries }) (record m' { entries = entries' }) answer then
+lines_with_entries K R text from entries entries' m m' answer s then e lines =
+    subst (LinesAnswer K R text from (record m { entries = entries }) (record m' { entries = entries' }) answer) e
     (elim lines [
       | inl r ↦ inl (record { refusal = r.refusal; stops = r.stops; answers = r.answers; untouched = r.untouched })
       | inr r ↦ inr (record {

@@ -1,5 +1,5 @@
 -- Cards and legs that are taken from the lines of a ticket, one line and then line after line.
-use Rattle.std.proofs.Common.{◌≡◌, ℕ, ◌+◌, ◌<◌, ◌≤◌, Bool, true, false, cond, eqb, ltb, List, [], ◌∷◌, ◌++◌, length, drop, set, replicate, ℤ, Some, None, Ok, Err, Option, Result, sym, refl, ap, ◌∙◌, subst, inl, inr, arith, length-append}
+use Rattle.std.proofs.Common.{◌≡◌, ℕ, ◌+◌, ◌<◌, ◌≤◌, Bool, true, false, cond, eqb, ltb, List, [], ◌∷◌, ◌++◌, length, drop, set, replicate, Some, None, Ok, Err, Option, Result, sym, refl, ap, ◌∙◌, subst, inl, inr, arith, length-append}
 use lib.ListN.{length-replicate}
 use Rattle.std.proofs.lemmas.List.{append_assoc, drop_more, set_at}
 use Rattle.std.proofs.lemmas.Bool.{cond-false, le-ltb, leb-false}
@@ -19,11 +19,13 @@ use Rattle.bay.specs.declared.fault.BayFault.{BayFault}
 use Rattle.bay.specs.Limits.{most_legs}
 use Rattle.lines.proofs.Places.{read_advances, read_within}
 use Rattle.lines.specs.Grammar.{IsRead, IsRefused}
+use Rattle.lines.specs.declared.line.Amount.{Amount}
 use Rattle.lines.specs.declared.line.Line.{Line}
 use Rattle.lines.specs.declared.line.Line.TheVariants.{Card, Leg}
 use Rattle.lines.specs.declared.line.Read.{Read}
 use Rattle.lines.specs.declared.line.Stage.{Stage}
 use Rattle.lines.specs.declared.line.Stage.TheVariants.{Formats, Cards, Legs}
+use Rattle.ticket.specs.Kinds.{ReadAs}
 use Rattle.ticket.specs.Faults.{Told, at_byte, told, told_by}
 use Rattle.bay.specs.Buffers.{in_front}
 use Rattle.ticket.specs.Said.{Said, said, due, adds, each_at, line_causes, Passes, More, Through, LineRefused, Stops}
@@ -82,35 +84,35 @@ front_more new x old n e h =
     ∙ ap (λ k. (new ++ x ∷ []) ++ drop k old) (sym (length-append new (x ∷ [])))
 
 -- cards and legs are due once every format has its code
-pub orders_due : {C : Type 0} {K : Kind C} (codes : List (List ℕ)) (p : Plain K) (legs : ℕ) (stage : Stage) → p.register.size ≤ length codes → legs ≡ length p.legs → stage ≡ cond (eqb legs 0) Cards Legs →
-    due (said codes p) ≡ stage
-orders_due codes p legs stage h e s =
-    cond-false (ltb (length codes) p.register.size) Formats (cond (eqb (length p.legs) 0) Cards Legs) (le-ltb _ _ h)
-    ∙ ap (λ n. cond (eqb n 0) Cards Legs) (sym e) ∙ sym s
+pub orders_due : {C : Type 0} {K : Kind C} (R : ReadAs C) (codes : List (List ℕ)) (p : Plain K) (legs : ℕ) (stage : Stage) → p.register.size ≤ length codes → legs ≡ length p.legs → stage ≡ cond (eqb legs 0) (Cards R.kind) Legs →
+    due R (said codes p) ≡ stage
+orders_due R codes p legs stage h e s =
+    cond-false (ltb (length codes) p.register.size) Formats (cond (eqb (length p.legs) 0) (Cards R.kind) Legs) (le-ltb _ _ h)
+    ∙ ap (λ n. cond (eqb n 0) (Cards R.kind) Legs) (sym e) ∙ sym s
 
-module _ {C : Type 0} (K : Kind C) (cost_of : ℤ → C) (text : List ℕ) where
-  module _ (s : Said K) (place : ℕ) (stage : Stage) (is_due : due s ≡ stage) where
-    pub unfit_line : (byte : ℕ) (t : Told) → IsRefused stage text place byte → t ≡ told byte (code Ticket 2 0) → LineRefused K cost_of text s place t
-    unfit_line byte t h e = inl (subst (λ x. IsRefused (due s) text place x.byte) (sym e) (subst (λ x. IsRefused x text place byte) (sym is_due) h), ap (λ x. x.code) e)
+module _ {C : Type 0} (K : Kind C) (R : ReadAs C) (text : List ℕ) where
+  module _ (s : Said K) (place : ℕ) (stage : Stage) (is_due : due R s ≡ stage) where
+    pub unfit_line : (byte : ℕ) (t : Told) → IsRefused stage text place byte → t ≡ told byte (code Ticket 2 0) → LineRefused K R text s place t
+    unfit_line byte t h e = inl (subst (λ x. IsRefused (due R s) text place x.byte) (sym e) (subst (λ x. IsRefused x text place byte) (sym is_due) h), ap (λ x. x.code) e)
 
     module _ (read : Read) (line : Line) (is_read : IsRead stage text place read) (line_is : read.line ≡ line) where
-      pub passes_line : first_cause (line_causes K cost_of s (length text) place line) ≡ None → Passes K cost_of text s place read
+      pub passes_line : first_cause (line_causes K R s (length text) place line) ≡ None → Passes K R text s place read
       passes_line e = record {
         is_read = subst (λ x. IsRead x text place read) (sym is_due) is_read;
-        no_cause = ap (λ l. first_cause (line_causes K cost_of s (length text) place l)) line_is ∙ e;
+        no_cause = ap (λ l. first_cause (line_causes K R s (length text) place l)) line_is ∙ e;
       }
 
-      pub refuses_line : (t : Told) → first_cause (line_causes K cost_of s (length text) place line) ≡ Some t → LineRefused K cost_of text s place t
-      refuses_line t e = inr (read, subst (λ x. IsRead x text place read) (sym is_due) is_read, ap (λ l. first_cause (line_causes K cost_of s (length text) place l)) line_is ∙ e)
+      pub refuses_line : (t : Told) → first_cause (line_causes K R s (length text) place line) ≡ Some t → LineRefused K R text s place t
+      refuses_line t e = inr (read, subst (λ x. IsRead x text place read) (sym is_due) is_read, ap (λ l. first_cause (line_causes K R s (length text) place l)) line_is ∙ e)
 
-  module _ (p p' : Plain K) (place : ℕ) (stage : Stage) (legs : ℕ) (legs_are : legs ≡ length p.legs) (stage_is : stage ≡ cond (eqb legs 0) Cards Legs) (read : Read) (is_read : IsRead stage text place read) (ends ends' : List Ends) where
-    is_due : (codes : List (List ℕ)) → p.register.size ≤ length codes → due (said codes p) ≡ stage
-    is_due codes h = orders_due codes p legs stage h legs_are stage_is
+  module _ (p p' : Plain K) (place : ℕ) (stage : Stage) (legs : ℕ) (legs_are : legs ≡ length p.legs) (stage_is : stage ≡ cond (eqb legs 0) (Cards R.kind) Legs) (read : Read) (is_read : IsRead stage text place read) (ends ends' : List Ends) where
+    is_due : (codes : List (List ℕ)) → p.register.size ≤ length codes → due R (said codes p) ≡ stage
+    is_due codes h = orders_due R codes p legs stage h legs_are stage_is
 
     -- a leg is booked
     pub leg_taken : (a b : ℕ) (n : ℕ) → read.line ≡ Leg a b → first_cause (book_causes p a b) ≡ None → first_cause (each_at place (book_causes p a b)) ≡ None →
         p' ≡ step p (Book a b) → n ≡ length p.legs → ends' ≡ set ends n (record { from = a; to = b }) →
-        OrderTaken K cost_of text place p p' ends ends' (record { place = read.end; legs = n + 1 })
+        OrderTaken K R text place p p' ends ends' (record { place = read.end; legs = n + 1 })
     leg_taken a b n line_is none none_at after_is n_is written =
         let leg : Ends = record { from = a; to = b } in
         let now_is : p' ≡ with_legs p (p.legs ++ leg ∷ []) = after_is ∙ after_none _ p _ none in
@@ -118,7 +120,7 @@ module _ {C : Type 0} (K : Kind C) (cost_of : ℤ → C) (text : List ℕ) where
           read = read;
           passes = λ codes h. passes_line (said codes p) place stage (is_due codes h) read (Leg a b) is_read line_is none_at;
           more = subst More (sym line_is) tt;
-          adds_it = λ codes. ap (adds K cost_of (said codes p)) line_is ∙ ap (said codes) (sym after_is);
+          adds_it = λ codes. ap (adds K R (said codes p)) line_is ∙ ap (said codes) (sym after_is);
           size = ap (λ x. x.register.size) now_is;
           written = λ base long e.
               written ∙ ap (λ x. set x n leg) e ∙ front_more p.legs leg base n n_is (omega (arith, long, n_is, book_room p a b none)) ∙ ap (λ x. in_front x.legs base) (sym now_is);
@@ -126,39 +128,39 @@ module _ {C : Type 0} (K : Kind C) (cost_of : ℤ → C) (text : List ℕ) where
           legs_are = omega (arith, n_is, length-append p.legs (leg ∷ []), ap (λ x. length x.legs) now_is);
         }
 
-    pub card_refused : (a b : ℕ) (z : ℤ) (cost : C) (refusal : Refusal) → read.line ≡ Card a b z → cost ≡ cost_of z →
+    pub card_refused : (a b : ℕ) (z : Amount) (cost : C) (refusal : Refusal) → read.line ≡ Card a b z → cost ≡ R.cost_of z →
         first_cause (each_at place (enter_causes p.register a b (admits K cost))) ≡ Some (told_by refusal) →
-        (codes : List (List ℕ)) → p.register.size ≤ length codes → LineRefused K cost_of text (said codes p) place (told_by refusal)
+        (codes : List (List ℕ)) → p.register.size ≤ length codes → LineRefused K R text (said codes p) place (told_by refusal)
     card_refused a b z cost refusal line_is cost_is told_is codes h =
         refuses_line (said codes p) place stage (is_due codes h) read (Card a b z) is_read line_is (told_by refusal) (ap (λ x. first_cause (each_at place (enter_causes p.register a b (admits K x)))) (sym cost_is) ∙ told_is)
 
     pub leg_refused : (a b : ℕ) (refusal : Refusal) → read.line ≡ Leg a b → first_cause (each_at place (book_causes p a b)) ≡ Some (told_by refusal) →
-        (codes : List (List ℕ)) → p.register.size ≤ length codes → LineRefused K cost_of text (said codes p) place (told_by refusal)
+        (codes : List (List ℕ)) → p.register.size ≤ length codes → LineRefused K R text (said codes p) place (told_by refusal)
     leg_refused a b refusal line_is told_is codes h = refuses_line (said codes p) place stage (is_due codes h) read (Leg a b) is_read line_is (told_by refusal) told_is
 
-  module _ (from : ℕ) (p p' : Plain K) (ends ends' : List Ends) (at : Progress) (taken : OrdersTaken K cost_of text from p p' ends ends' at) where
+  module _ (from : ℕ) (p p' : Plain K) (ends ends' : List Ends) (at : Progress) (taken : OrdersTaken K R text from p p' ends ends' at) where
     as_many : (codes : List (List ℕ)) → p.register.size ≤ length codes → p'.register.size ≤ length codes
     as_many codes h = subst (λ n. n ≤ length codes) (sym taken.size) h
 
     -- one card or leg more
-    pub orders_more : (p'' : Plain K) (ends'' : List Ends) (next : Progress) → length ends ≡ most_legs → OrderTaken K cost_of text at.place p' p'' ends' ends'' next →
-        OrdersTaken K cost_of text from p p'' ends ends'' next
+    pub orders_more : (p'' : Plain K) (ends'' : List Ends) (next : Progress) → length ends ≡ most_legs → OrderTaken K R text at.place p' p'' ends' ends'' next →
+        OrdersTaken K R text from p p'' ends ends'' next
     orders_more p'' ends'' next long r = record {
       lines = taken.lines ++ r.read ∷ [];
       through = λ codes h.
-          subst (λ e. Through K cost_of text (said codes p) from (taken.lines ++ r.read ∷ []) e (said codes p'')) (sym r.place_is)
-          (subst (Through K cost_of text (said codes p) from (taken.lines ++ r.read ∷ []) r.read.end) (r.adds_it codes)
-          (through_more K cost_of text (said codes p) from taken.lines at.place (said codes p') r.read (taken.through codes h) (r.passes codes (as_many codes h)) r.more));
+          subst (λ e. Through K R text (said codes p) from (taken.lines ++ r.read ∷ []) e (said codes p'')) (sym r.place_is)
+          (subst (Through K R text (said codes p) from (taken.lines ++ r.read ∷ []) r.read.end) (r.adds_it codes)
+          (through_more K R text (said codes p) from taken.lines at.place (said codes p') r.read (taken.through codes h) (r.passes codes (as_many codes h)) r.more));
       size = r.size ∙ taken.size;
       written = r.written ends long taken.written;
       legs_are = r.legs_are;
     }
 
-    pub orders_stop : (t : Told) → OnceCoded K cost_of text p' (λ codes. LineRefused K cost_of text (said codes p') at.place t) → OnceCoded K cost_of text p (λ codes. Stops K cost_of text (said codes p) from t)
+    pub orders_stop : (t : Told) → OnceCoded K R text p' (λ codes. LineRefused K R text (said codes p') at.place t) → OnceCoded K R text p (λ codes. Stops K R text (said codes p) from t)
     orders_stop t r codes h = record { lines = taken.lines; place = at.place; then = said codes p'; through = taken.through codes h; refused = r codes (as_many codes h) }
 
   -- each line takes the text further
-  pub order_advances : (place : ℕ) (p p' : Plain K) (ends ends' : List Ends) (next : Progress) → OrderTaken K cost_of text place p p' ends ends' next → (place < next.place) × (next.place ≤ length text)
+  pub order_advances : (place : ℕ) (p p' : Plain K) (ends ends' : List Ends) (next : Progress) → OrderTaken K R text place p p' ends ends' next → (place < next.place) × (next.place ≤ length text)
   order_advances place p p' ends ends' next r =
       let codes : List (List ℕ) = replicate p.register.size [] in
       let many : length codes ≡ p.register.size = length-replicate p.register.size [] in

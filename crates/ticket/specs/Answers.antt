@@ -1,5 +1,5 @@
 -- What a ticket is answered, for every text and whatever the memory that is handed in holds, and what is left in that memory.
-use Rattle.std.specs.Prelude.{◌≡◌, ℕ, ◌<◌, ◌≤◌, ◌⊎◌, List, [], length, drop, ℤ, Some, None, Ok, Err, Option, Result}
+use Rattle.std.specs.Prelude.{◌≡◌, ℕ, ◌<◌, ◌≤◌, ◌⊎◌, List, [], length, drop, Some, None, Ok, Err, Option, Result}
 use Rattle.costs.specs.declared.Cost.{Ghosts as Kind}
 use Rattle.registers.specs.Fault.{first_cause}
 use Rattle.lent.specs.declared.list.Entry.{Entry}
@@ -13,6 +13,7 @@ use Rattle.lines.specs.Grammar.{IsRead, IsRefused}
 use Rattle.lines.specs.declared.line.Line.TheVariants.{Bay}
 use Rattle.lines.specs.declared.line.Read.{Read}
 use Rattle.lines.specs.declared.line.Stage.TheVariants.{Start}
+use Rattle.ticket.specs.Kinds.{ReadAs}
 use Rattle.ticket.specs.Faults.{at_byte, told_by}
 use Rattle.ticket.specs.Said.{Said, begins, bay_causes, ticket_entries, Stops, Completes}
 use Rattle.ticket.specs.declared.fault.Refusal.{Refusal}
@@ -77,12 +78,12 @@ pub record SameMemory {C : Type 0} (m m' : Memory C) : Type 0 where
   pub codes_long : length m'.codes.now ≡ length m.codes.now
   pub ends_long : length m'.ends.now ≡ length m.ends.now
 
-module _ {C : Type 0} (K : Kind C) (cost_of : ℤ → C) (text : List ℕ) (from : ℕ) (m m' : Contents C) (answer : Result ℕ Refusal) where
+module _ {C : Type 0} (K : Kind C) (R : ReadAs C) (text : List ℕ) (from : ℕ) (m m' : Contents C) (answer : Result ℕ Refusal) where
   module _ (s : Said K) where
     -- a line from `from` on is refused
     pub record TicketRefused : Type 0 where
       pub refusal : Refusal
-      pub stops : Stops K cost_of text s from (told_by refusal)
+      pub stops : Stops K R text s from (told_by refusal)
       pub answers : answer ≡ Err refusal
       pub untouched : m'.buffers ≡ m.buffers
 
@@ -91,7 +92,7 @@ module _ {C : Type 0} (K : Kind C) (cost_of : ℤ → C) (text : List ℕ) (from
     pub record TicketRouted : Type 0 where
       pub place : ℕ
       pub then : Said K
-      pub completes : Completes K cost_of text s from place then
+      pub completes : Completes K R text s from place then
       pub legs : List Leg
       pub noted : List Leg
       pub result : Result ℕ BayFault

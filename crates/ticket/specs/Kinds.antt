@@ -1,14 +1,41 @@
--- The costs of each kind as the numbers that a ticket has for them.
-use Rattle.std.specs.Prelude.{cond, ℤ, pos, negsuc, nat_le}
+-- The costs of each kind as the amounts that a ticket has for them, and how the card lines of a ticket are read.
+use Rattle.std.specs.Prelude.{cond, pos, negsuc, nat_le}
 use Rattle.costs.specs.Depth.{deepest}
 use Rattle.costs.specs.declared.delay.Delay.{Delay}
 use Rattle.costs.specs.declared.depth.Depth.{Depth}
+use Rattle.lines.specs.declared.line.Amount.{Amount}
+use Rattle.lines.specs.declared.line.Amount.TheVariants.{HalfLines, Bits}
+use Rattle.lines.specs.declared.line.Kind.{Kind}
 
--- a delay of so many lines
-abbrev pub delay_of : ℤ → Delay
-delay_of z = record { lines = z }
+-- a delay, and a depth, that no card may have
+abbrev pub no_delay : Delay
+no_delay = record { half_lines = negsuc 2_147_483_647 }
 
--- a depth of so many bits; a number that no depth has is taken for 0
-abbrev pub depth_of : ℤ → Depth
-depth_of (pos n) = record { bits = cond (nat_le n deepest) n 0 }
-depth_of (negsuc n) = record { bits = 0 }
+abbrev pub no_depth : Depth
+no_depth = record { bits = 0 }
+
+-- a delay of so many half lines; an amount of another kind is taken for one that no card may have
+abbrev pub delay_of : Amount → Delay
+delay_of (HalfLines z) = record { half_lines = z }
+delay_of (Bits z) = no_delay
+
+-- a depth of so many bits; an amount that no depth has is taken for one that no card may have
+abbrev pub depth_of : Amount → Depth
+depth_of (HalfLines z) = no_depth
+depth_of (Bits (pos n)) = record { bits = cond (nat_le n deepest) n 0 }
+depth_of (Bits (negsuc n)) = no_depth
+
+-- the amount that stands for a delay, and for a depth
+abbrev pub delay_amount : Delay → Amount
+delay_amount d = HalfLines d.half_lines
+
+abbrev pub depth_amount : Depth → Amount
+depth_amount d = Bits (pos d.bits)
+
+-- How the card lines of a ticket are read: the kind of its bay line, which says what fits, and the cost that an amount stands for.
+pub record ReadAs (C : Type 0) : Type 0 where
+  pub kind : Kind
+  pub cost_of : Amount → C
+
+abbrev pub read_as : {C : Type 0} → Kind → (Amount → C) → ReadAs C
+read_as kind cost_of = record { kind = kind; cost_of = cost_of }

@@ -1,5 +1,5 @@
 -- What the lines of a ticket say one after the other, and why a line is refused.
-use Rattle.std.specs.Prelude.{◌≡◌, ℕ, ◌+◌, Bool, true, false, cond, not, ◌&&◌, ◌||◌, ◌⊎◌, List, [], ◌∷◌, ◌++◌, length, drop, ℤ, Some, None, ◌==◌, nat_lt}
+use Rattle.std.specs.Prelude.{◌≡◌, ℕ, ◌+◌, Bool, true, false, cond, not, ◌&&◌, ◌||◌, ◌⊎◌, List, [], ◌∷◌, ◌++◌, length, drop, Some, None, ◌==◌, nat_lt}
 use Rattle.costs.specs.declared.Cost.{Ghosts as Kind}
 use Rattle.costs.specs.Algebra.{Algebra}
 use Rattle.costs.specs.Kind.{admits}
@@ -16,6 +16,7 @@ use Rattle.lines.specs.declared.line.Line.TheVariants.{Bay, Format, Card, Leg, E
 use Rattle.lines.specs.declared.line.Read.{Read}
 use Rattle.lines.specs.declared.line.Stage.{Stage}
 use Rattle.lines.specs.declared.line.Stage.TheVariants.{Formats, Cards, Legs}
+use Rattle.ticket.specs.Kinds.{ReadAs}
 use Rattle.ticket.specs.Faults.{Told, told}
 
 -- the cards of a ticket lie in so many entries of the memory that is handed in
@@ -65,9 +66,9 @@ module _ {C : Type 0} {K : Kind C} where
   abbrev pub begins : ℕ → Said K
   begins n = said [] (record { register = begun n true ticket_entries; legs = [] })
 
-  -- what may come next: formats until each has its code, then cards, and no more cards once there is a leg
-  abbrev pub due : Said K → Stage
-  due s = cond (nat_lt (length s.codes) s.plain.register.size) Formats (cond (length s.plain.legs == 0) Cards Legs)
+  -- what may come next: formats until each has its code, then cards as the kind has them, and no more cards once there is a leg
+  abbrev pub due : ReadAs C → Said K → Stage
+  due R s = cond (nat_lt (length s.codes) s.plain.register.size) Formats (cond (length s.plain.legs == 0) (Cards R.kind) Legs)
 
 -- a line that others may follow
 abbrev pub More : Line → Type 0
@@ -77,13 +78,13 @@ More (Card a b cost) = Unit {0}
 More (Leg a b) = Unit {0}
 More End = ⊥
 
--- `cost_of` is the cost that a card line's number stands for
-module _ {C : Type 0} (K : Kind C) (cost_of : ℤ → C) where
+-- `R` is how card lines are read
+module _ {C : Type 0} (K : Kind C) (R : ReadAs C) where
   -- why a line at `from` of a text of `total` bytes is refused, once it is read; a card is entered, and a leg is booked
   abbrev pub line_causes : Said K → ℕ → ℕ → Line → List (Bool × Told)
   line_causes s total from (Bay kind n) = []
   line_causes s total from (Format k code) = format_causes s.codes from k code
-  line_causes s total from (Card a b cost) = each_at from (enter_causes s.plain.register a b (admits K (cost_of cost)))
+  line_causes s total from (Card a b cost) = each_at from (enter_causes s.plain.register a b (admits K (R.cost_of cost)))
   line_causes s total from (Leg a b) = each_at from (book_causes s.plain a b)
   line_causes s total from End = end_line_causes total from
 
@@ -91,14 +92,14 @@ module _ {C : Type 0} (K : Kind C) (cost_of : ℤ → C) where
   abbrev pub adds : Said K → Line → Said K
   adds s (Bay kind n) = s
   adds s (Format k code) = said (s.codes ++ code ∷ []) s.plain
-  adds s (Card a b cost) = said s.codes (step s.plain (Enter a b (cost_of cost)))
+  adds s (Card a b cost) = said s.codes (step s.plain (Enter a b (R.cost_of cost)))
   adds s (Leg a b) = said s.codes (step s.plain (Book a b))
   adds s End = s
 
   module _ (text : List ℕ) where
     -- the line is read at `from`, and no cause holds against it
     pub record Passes (s : Said K) (from : ℕ) (read : Read) : Type 0 where
-      pub is_read : IsRead (due s) text from read
+      pub is_read : IsRead (due R s) text from read
       pub no_cause : first_cause (line_causes s (length text) from read.line) ≡ None
 
     -- the lines stand in the text one after the other from `from` to `place`, all of them pass, and then so much is said
@@ -109,8 +110,8 @@ module _ {C : Type 0} (K : Kind C) (cost_of : ℤ → C) where
     -- the line at `from` is refused: no allowed line stands there, or a cause holds against the one that does
     abbrev pub LineRefused : Said K → ℕ → Told → Type 0
     LineRefused s from t =
-        (IsRefused (due s) text from t.byte × (t.code ≡ code Ticket 2 0)) ⊎
-        ((read : Read) × IsRead (due s) text from read × (first_cause (line_causes s (length text) from read.line) ≡ Some t))
+        (IsRefused (due R s) text from t.byte × (t.code ≡ code Ticket 2 0)) ⊎
+        ((read : Read) × IsRead (due R s) text from read × (first_cause (line_causes s (length text) from read.line) ≡ Some t))
 
     -- some lines pass, and the next is refused
     pub record Stops (s : Said K) (from : ℕ) (t : Told) : Type 0 where

@@ -5,7 +5,6 @@ ghost use Rattle.ticket.specs.Said.{used};
 ghost use Rattle.ticket.specs.Steps.{FormatAnswer, FormatsAnswer};
 
 use crate::fault::{Refusal, TicketFault};
-use crate::kinds::TicketCost;
 use costs::Cost;
 use lines::{Line, Stage, read_line, same_bytes};
 use registers::MOST_FORMATS;
@@ -48,7 +47,7 @@ fn read_format(
 }
 
 // The lines of `n` formats: where they end.
-pub(crate) fn read_formats<C: TicketCost>(
+pub(crate) fn read_formats<C: Cost>(
     text: &[u8],
     from: usize,
     n: usize,
@@ -57,7 +56,7 @@ pub(crate) fn read_formats<C: TicketCost>(
     requires { n ≤ most_formats }
     ensures long { length codes.new ≡ most_formats }
     ensures as_long { length codes.new ≡ length codes.old }
-    ensures answer { FormatsAnswer C.Cost C.reads text.now from n codes.old codes.new result }
+    ensures answer { FormatsAnswer C.Cost text.now from n codes.old codes.new result }
 {
     let mut place = from;
     for k in 0..n {

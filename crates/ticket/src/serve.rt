@@ -5,6 +5,7 @@ ghost use Rattle.registers.specs.Meaning.{most_formats};
 ghost use Rattle.bay.specs.Bays.{legs, plain};
 ghost use Rattle.ticket.specs.Answers.{BayAnswer, KindAnswer, LinesAnswer, SameMemory, contents, lent_contents};
 ghost use Rattle.ticket.specs.Faults.{told_of};
+ghost use Rattle.ticket.specs.Kinds.{read_as};
 ghost use Rattle.ticket.specs.Said.{said, bay_causes};
 
 use crate::fault::{Refusal, TicketFault, at_byte};
@@ -98,10 +99,11 @@ fn judge_bay(n: usize, entries: usize) -> Result<(), Refusal>
     Ok(())
 }
 
-// The lines after the bay line, on a bay of `n` formats without legs, and the route at their end: the number of legs. The memory
+// The lines after the bay line of this kind, on a bay of `n` formats without legs, and the route at their end: the number of legs. The memory
 // is lent place by place, since the bay holds the entries meanwhile.
 fn route_lines<C: TicketCost, R: Register<Cost = C>>(
     text: &[u8],
+    kind: Kind,
     from: usize,
     n: usize,
     bay: &mut Bay<R>,
@@ -116,12 +118,13 @@ fn route_lines<C: TicketCost, R: Register<Cost = C>>(
     requires legs { legs bay.old ≡ [] }
     ensures answer { let before = lent_contents table.old costs.old chains.old codes.old ends.old in
         let after = lent_contents table.new costs.new chains.new codes.new ends.new in
-        LinesAnswer C.Cost C.reads text.now from before after result (said [] (plain bay.old)) }
+        LinesAnswer C.Cost (read_as kind C.reads) text.now from before after result
+        (said [] (plain bay.old)) }
     ensures codes { length codes.new ≡ length codes.old }
     ensures ends { length ends.new ≡ length ends.old }
 {
     let orders = read_formats::<C>(text, from, n, codes)?;
-    let end = read_orders(text, orders, bay, ends)?;
+    let end = read_orders(text, kind, orders, bay, ends)?;
     at_byte(bay.route(table, costs, chains), end)
 }
 
@@ -132,8 +135,8 @@ pub fn route_ticket<C: TicketCost>(
     bay: BayLine,
     memory: &mut Memory<'_, C>,
 ) -> Result<usize, Refusal>
-    ensures answer { KindAnswer C.Cost C.reads text.now bay.end (contents memory.old)
-        (contents memory.new) result bay.size }
+    ensures answer { KindAnswer C.Cost (read_as bay.kind C.reads) text.now bay.end
+        (contents memory.old) (contents memory.new) result bay.size }
     ensures same { SameMemory memory.old memory.new }
 {
     judge_bay(bay.size, memory.entries.len())?;
@@ -141,6 +144,7 @@ pub fn route_ticket<C: TicketCost>(
     let mut made = Bay::new(List::new(bay.size, &mut entries[0..TICKET_ENTRIES]));
     route_lines(
         text,
+        bay.kind,
         bay.end,
         bay.size,
         &mut made,

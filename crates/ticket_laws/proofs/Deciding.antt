@@ -1,5 +1,5 @@
 -- The lines of a text pass in one way only, and what comes after them is told in one way only.
-use Rattle.std.proofs.Common.{◌≡◌, ℕ, ◌⊎◌, List, [], ◌∷◌, length, ℤ, Some, None, Ok, Err, Option, Result, sym, refl, ap, ◌∙◌, subst, inl, inr, arith}
+use Rattle.std.proofs.Common.{◌≡◌, ℕ, ◌⊎◌, List, [], ◌∷◌, length, Some, None, Ok, Err, Option, Result, sym, refl, ap, ◌∙◌, subst, inl, inr, arith}
 use Rattle.costs.specs.declared.Cost.{Ghosts as Kind}
 use Rattle.costs.specs.Algebra.{Algebra}
 use Rattle.registers.specs.Fault.{first_cause}
@@ -22,6 +22,7 @@ use Rattle.lines.specs.declared.line.Read.{Read}
 use Rattle.lines.specs.declared.line.Stage.{Stage}
 use Rattle.lines.specs.declared.line.Stage.TheVariants.{Start}
 use Rattle.lines.specs.declared.line.Unfit.{Unfit}
+use Rattle.ticket.specs.Kinds.{ReadAs}
 use Rattle.ticket.specs.Answers.{BayPasses, BayRefused, Contents, KindAnswer, LinesAnswer, TicketRefused, TicketRouted}
 use Rattle.ticket.specs.declared.serve.BayLine.{BayLine}
 use Rattle.ticket_laws.specs.Verdict.{OneFirstLine, tells}
@@ -48,48 +49,48 @@ none≢some o x e f = let z : ◌≡◌ {A = ℕ} 0 1 = cc in omega arith
 pub same_some : {X : Type 0} (o : Option X) (x y : X) → o ≡ Some x → o ≡ Some y → x ≡ y
 same_some o x y e f = cc
 
-module _ {C : Type 0} (K : Kind C) (cost_of : ℤ → C) (text : List ℕ) where
+module _ {C : Type 0} (K : Kind C) (R : ReadAs C) (text : List ℕ) where
   -- no other line follows here: the line is refused, or it is the end line
   abbrev pub Final : Said K → ℕ → Type 0
-  Final s from = ((t : Told) × LineRefused K cost_of text s from t) ⊎ ((read : Read) × Passes K cost_of text s from read × (read.line ≡ End))
+  Final s from = ((t : Told) × LineRefused K R text s from t) ⊎ ((read : Read) × Passes K R text s from read × (read.line ≡ End))
 
   -- a line that is refused does not pass
-  pub refused_not_passed : (s : Said K) (from : ℕ) (t : Told) (read : Read) → LineRefused K cost_of text s from t → Passes K cost_of text s from read → ⊥
-  refused_not_passed s from t read (inl h) p = not_both (due s) text from read t.byte p.is_read h.0
+  pub refused_not_passed : (s : Said K) (from : ℕ) (t : Told) (read : Read) → LineRefused K R text s from t → Passes K R text s from read → ⊥
+  refused_not_passed s from t read (inl h) p = not_both (due R s) text from read t.byte p.is_read h.0
   refused_not_passed s from t read (inr h) p =
-      let e = one_read (due s) text from read h.0 p.is_read h.1 in
-      none≢some _ t p.no_cause (ap (λ r. first_cause (line_causes K cost_of s (length text) from r.line)) e ∙ h.2)
+      let e = one_read (due R s) text from read h.0 p.is_read h.1 in
+      none≢some _ t p.no_cause (ap (λ r. first_cause (line_causes K R s (length text) from r.line)) e ∙ h.2)
 
-  final_not_more : (s : Said K) (from : ℕ) (read : Read) → Final s from → Passes K cost_of text s from read → More read.line → ⊥
+  final_not_more : (s : Said K) (from : ℕ) (read : Read) → Final s from → Passes K R text s from read → More read.line → ⊥
   final_not_more s from read (inl h) p m = refused_not_passed s from h.0 read h.1 p
   final_not_more s from read (inr h) p m =
-      let e = one_read (due s) text from read h.0 p.is_read h.1.is_read in
+      let e = one_read (due R s) text from read h.0 p.is_read h.1.is_read in
       subst More (ap (λ r. r.line) e ∙ h.2) m
 
   -- two ways through the lines come to the same place
   pub one_way : (s : Said K) (from : ℕ) (lines lines' : List Read) (place place' : ℕ) (then then' : Said K) →
-      Through K cost_of text s from lines place then → Through K cost_of text s from lines' place' then' → Final then place → Final then' place' → (place ≡ place') × (then ≡ then')
+      Through K R text s from lines place then → Through K R text s from lines' place' then' → Final then place → Final then' place' → (place ≡ place') × (then ≡ then')
   one_way s from [] [] place place' then then' t u f g = (sym t.0 ∙ u.0, sym t.1 ∙ u.1)
   one_way s from [] (r ∷ lines') place place' then then' t u f g =
       absurd (final_not_more s from r (subst (λ x. Final x from) (sym t.1) (subst (Final then) (sym t.0) f)) u.0 u.1)
   one_way s from (r ∷ lines) [] place place' then then' t u f g =
       absurd (final_not_more s from r (subst (λ x. Final x from) (sym u.1) (subst (Final then') (sym u.0) g)) t.0 t.1)
   one_way s from (r ∷ lines) (r' ∷ lines') place place' then then' t u f g =
-      let e : r' ≡ r = one_read (due s) text from r' r u.0.is_read t.0.is_read in
-      one_way (adds K cost_of s r.line) r.end lines lines' place place' then then' t.2
-      (subst (λ x. Through K cost_of text (adds K cost_of s x.line) x.end lines' place' then') e u.2) f g
+      let e : r' ≡ r = one_read (due R s) text from r' r u.0.is_read t.0.is_read in
+      one_way (adds K R s r.line) r.end lines lines' place place' then then' t.2
+      (subst (λ x. Through K R text (adds K R s x.line) x.end lines' place' then') e u.2) f g
 
   -- a refused line is told in one way
-  pub one_told : (s : Said K) (from : ℕ) (t u : Told) → LineRefused K cost_of text s from t → LineRefused K cost_of text s from u → t ≡ u
+  pub one_told : (s : Said K) (from : ℕ) (t u : Told) → LineRefused K R text s from t → LineRefused K R text s from u → t ≡ u
   one_told s from t u (inl h) (inl k) =
-      let e = one_byte (due s) text from t.byte u.byte h.0 k.0 in
+      let e = one_byte (due R s) text from t.byte u.byte h.0 k.0 in
       let f : t.code ≡ u.code = h.1 ∙ sym k.1 in
       λ i. record { code = f i; byte = e i }
-  one_told s from t u (inl h) (inr k) = absurd (not_both (due s) text from k.0 t.byte k.1 h.0)
-  one_told s from t u (inr h) (inl k) = absurd (not_both (due s) text from h.0 u.byte h.1 k.0)
+  one_told s from t u (inl h) (inr k) = absurd (not_both (due R s) text from k.0 t.byte k.1 h.0)
+  one_told s from t u (inr h) (inl k) = absurd (not_both (due R s) text from h.0 u.byte h.1 k.0)
   one_told s from t u (inr h) (inr k) =
-      let e = one_read (due s) text from k.0 h.0 k.1 h.1 in
-      same_some _ t u h.2 (sym (ap (λ r. first_cause (line_causes K cost_of s (length text) from r.line)) e) ∙ k.2)
+      let e = one_read (due R s) text from k.0 h.0 k.1 h.1 in
+      same_some _ t u h.2 (sym (ap (λ r. first_cause (line_causes K R s (length text) from r.line)) e) ∙ k.2)
 
 -- what an answer tells
 abbrev pub outcome : Result ℕ BayFault → Result ℕ Code
@@ -123,38 +124,38 @@ module _ {C : Type 0} (K : Kind C) where
   one_outcome p legs legs' noted noted' m m' m'' r r' (inr (inr t)) (inr (inl u)) = absurd (t.no_loop (looped_gains K.algebra (standing p.register) _ u.loop))
   one_outcome p legs legs' noted noted' m m' m'' r r' (inr (inr t)) (inr (inr u)) = ap outcome (t.answers ∙ sym u.answers)
 
-  module _ (cost_of : ℤ → C) (text : List ℕ) (from : ℕ) (m : Contents C) where
-    refused_not_routed : (s : Said K) (m' m'' : Contents C) (a b : Result ℕ Refusal) → TicketRefused K cost_of text from m m' a s → TicketRouted K cost_of text from m m'' b s → ⊥
+  module _ (R : ReadAs C) (text : List ℕ) (from : ℕ) (m : Contents C) where
+    refused_not_routed : (s : Said K) (m' m'' : Contents C) (a b : Result ℕ Refusal) → TicketRefused K R text from m m' a s → TicketRouted K R text from m m'' b s → ⊥
     refused_not_routed s m' m'' a b t u =
         let t_stops = t.stops in
         let u_ends = u.completes in
-        let same = one_way K cost_of text s from t_stops.lines u_ends.lines t_stops.place u.place t_stops.then u.then t_stops.through u_ends.through
+        let same = one_way K R text s from t_stops.lines u_ends.lines t_stops.place u.place t_stops.then u.then t_stops.through u_ends.through
         (inl (told_by t.refusal, t_stops.refused)) (inr (u_ends.last, u_ends.passes, u_ends.is_end)) in
-        refused_not_passed K cost_of text t_stops.then t_stops.place (told_by t.refusal) u_ends.last t_stops.refused
-        (subst (λ x. Passes K cost_of text x t_stops.place u_ends.last) (sym same.1) (subst (λ x. Passes K cost_of text u.then x u_ends.last) (sym same.0) u_ends.passes))
+        refused_not_passed K R text t_stops.then t_stops.place (told_by t.refusal) u_ends.last t_stops.refused
+        (subst (λ x. Passes K R text x t_stops.place u_ends.last) (sym same.1) (subst (λ x. Passes K R text u.then x u_ends.last) (sym same.0) u_ends.passes))
 
     module _ (m' m'' : Contents C) (answer other : Result ℕ Refusal) where
-      pub one_of_lines : (s : Said K) → LinesAnswer K cost_of text from m m' answer s → LinesAnswer K cost_of text from m m'' other s → tells answer ≡ tells other
+      pub one_of_lines : (s : Said K) → LinesAnswer K R text from m m' answer s → LinesAnswer K R text from m m'' other s → tells answer ≡ tells other
       one_of_lines s (inl t) (inl u) =
-          let same = one_way K cost_of text s from t.stops.lines u.stops.lines t.stops.place u.stops.place t.stops.then u.stops.then t.stops.through u.stops.through
+          let same = one_way K R text s from t.stops.lines u.stops.lines t.stops.place u.stops.place t.stops.then u.stops.then t.stops.through u.stops.through
           (inl (told_by t.refusal, t.stops.refused)) (inl (told_by u.refusal, u.stops.refused)) in
-          let told_same = one_told K cost_of text t.stops.then t.stops.place (told_by t.refusal) (told_by u.refusal) t.stops.refused
-          (subst (λ x. LineRefused K cost_of text x t.stops.place (told_by u.refusal)) (sym same.1) (subst (λ x. LineRefused K cost_of text u.stops.then x (told_by u.refusal)) (sym same.0) u.stops.refused)) in
+          let told_same = one_told K R text t.stops.then t.stops.place (told_by t.refusal) (told_by u.refusal) t.stops.refused
+          (subst (λ x. LineRefused K R text x t.stops.place (told_by u.refusal)) (sym same.1) (subst (λ x. LineRefused K R text u.stops.then x (told_by u.refusal)) (sym same.0) u.stops.refused)) in
           ap tells t.answers ∙ ap Err told_same ∙ sym (ap tells u.answers)
       one_of_lines s (inl t) (inr u) = absurd (refused_not_routed s m' m'' answer other t u)
       one_of_lines s (inr t) (inl u) = absurd (refused_not_routed s m'' m' other answer u t)
       one_of_lines s (inr t) (inr u) =
-          let same = one_way K cost_of text s from t.completes.lines u.completes.lines t.place u.place t.then u.then t.completes.through u.completes.through
+          let same = one_way K R text s from t.completes.lines u.completes.lines t.place u.place t.then u.then t.completes.through u.completes.through
           (inr (t.completes.last, t.completes.passes, t.completes.is_end)) (inr (u.completes.last, u.completes.passes, u.completes.is_end)) in
           let route = subst (λ x. RouteAnswer x.plain u.legs u.noted m.buffers m''.buffers u.result) (sym same.1) u.route in
           ap tells t.answers ∙ tells_at t.place t.result
           ∙ ap (at_place t.place) (one_outcome t.then.plain t.legs u.legs t.noted u.noted m.buffers m'.buffers m''.buffers t.result u.result t.route route)
           ∙ ap (λ x. at_place x (outcome u.result)) same.0 ∙ sym (ap tells u.answers ∙ tells_at u.place u.result)
 
-      pub one_of_kind : (n : ℕ) → KindAnswer K cost_of text from m m' answer n → KindAnswer K cost_of text from m m'' other n → tells answer ≡ tells other
+      pub one_of_kind : (n : ℕ) → KindAnswer K R text from m m' answer n → KindAnswer K R text from m m'' other n → tells answer ≡ tells other
       one_of_kind n t u = go t.answered u.answered
         where
-          go : (BayRefused K cost_of text from m m' answer n ⊎ BayPasses K cost_of text from m m' answer n) → (BayRefused K cost_of text from m m'' other n ⊎ BayPasses K cost_of text from m m'' other n) → tells answer ≡ tells other
+          go : (BayRefused K R text from m m' answer n ⊎ BayPasses K R text from m m' answer n) → (BayRefused K R text from m m'' other n ⊎ BayPasses K R text from m m'' other n) → tells answer ≡ tells other
           go (inl a) (inl b) = ap tells a.answers ∙ ap Err (same_some _ (told_by a.refusal) (told_by b.refusal) a.cause b.cause) ∙ sym (ap tells b.answers)
           go (inl a) (inr b) = absurd (none≢some _ (told_by a.refusal) b.no_cause a.cause)
           go (inr a) (inl b) = absurd (none≢some _ (told_by b.refusal) a.no_cause b.cause)

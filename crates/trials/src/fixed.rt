@@ -101,14 +101,14 @@ fn small(rt: &HostRuntime) -> anyhow::Result<()> {
         rt,
         "two formats",
         2,
-        &[card(0, 1, 1_000_000)],
+        &[card(0, 1, 2_000_000)],
         &[leg(0, 1), leg(1, 0)],
     )?;
     show::<Delay>(
         rt,
         "two formats in a loop",
         2,
-        &[card(0, 1, 1_000_000), card(1, 0, -1_000_000)],
+        &[card(0, 1, 2_000_000), card(1, 0, -2_000_000)],
         &[leg(0, 1), leg(1, 0)],
     )?;
     show::<Delay>(rt, "no card", 2, &[], &[leg(1, 0)])?;
@@ -142,7 +142,7 @@ fn large(rt: &HostRuntime) -> anyhow::Result<()> {
         &flat,
         &[leg(0, 63), leg(63, 0), leg(60, 63)],
     )?;
-    let steep = complete(rt.alloc(), -1_000_000, 1_000_000)?;
+    let steep = complete(rt.alloc(), -2_000_000, 2_000_000)?;
     show::<Delay>(rt, "a loop of most formats", 64, &steep, &[leg(0, 63)])?;
     let deep = complete(rt.alloc(), 16, 15)?;
     show::<Depth>(rt, "a long deep way", 64, &deep, &[leg(0, 63), leg(5, 9)])
@@ -177,7 +177,7 @@ fn route_in<R: Register<Cost = Delay>>(
 ) -> anyhow::Result<()> {
     let heap = rt.alloc();
     let mut table = vec![in heap; Cell::empty(); cells]?;
-    let mut costs = vec![in heap; Delay { lines: 0 }; entries]?;
+    let mut costs = vec![in heap; Delay { half_lines: 0 }; entries]?;
     let mut chains = vec![in heap; 0; bytes]?;
     print_answer(rt, what, bay.route(&mut table, &mut costs, &mut chains))
 }
@@ -214,8 +214,14 @@ fn legs(rt: &HostRuntime) -> anyhow::Result<()> {
     if let Err(fault) = bay.withdraw(0, 1) {
         print_fault(rt, "withdraw 0 1", fault)?;
     }
-    if let Err(fault) = bay.enter(0, 1, Delay { lines: 1_000_001 }) {
-        print_fault(rt, "enter 0 1 1000001", fault)?;
+    if let Err(fault) = bay.enter(
+        0,
+        1,
+        Delay {
+            half_lines: 2_000_001,
+        },
+    ) {
+        print_fault(rt, "enter 0 1 2000001", fault)?;
     }
     Ok(())
 }
@@ -253,14 +259,20 @@ fn notes(rt: &HostRuntime) -> anyhow::Result<()> {
     let mut bay = Bay::new(Matrix::new(3, &mut places));
     let _ = bay.book(2, 1);
     let _ = bay.book(0, 1);
-    let _ = bay.enter(2, 1, Delay { lines: 4 });
+    let _ = bay.enter(2, 1, Delay { half_lines: 4 });
     route_and_print(rt, &mut bay)?;
-    let _ = bay.enter(2, 1, Delay { lines: -1_000_001 });
+    let _ = bay.enter(
+        2,
+        1,
+        Delay {
+            half_lines: -2_000_001,
+        },
+    );
     print_leg(rt, &bay, 0)?;
     let _ = bay.withdraw(2, 1);
     route_and_print(rt, &mut bay)?;
-    let _ = bay.enter(2, 0, Delay { lines: 3 });
-    let _ = bay.enter(0, 1, Delay { lines: 3 });
+    let _ = bay.enter(2, 0, Delay { half_lines: 3 });
+    let _ = bay.enter(0, 1, Delay { half_lines: 3 });
     route_and_print(rt, &mut bay)?;
     let _ = bay.strike(0);
     print_leg(rt, &bay, 0)?;

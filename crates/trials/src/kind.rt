@@ -1,9 +1,13 @@
-// The cost kinds as plain numbers, so that one text serves for both.
+// The cost kinds as plain numbers, half lines or bits, so that one text serves for both.
 use crate::dice::Dice;
-use costs::{Delay, Depth};
-use ticket::TicketCost;
+use costs::{Cost, Delay, Depth};
 
-pub trait Kind: TicketCost {
+pub trait Kind: Cost {
+    // The cost that a number stands for, and the number of a cost.
+    fn of_number(number: i32) -> Self;
+
+    fn number(self) -> i32;
+
     // What two numbers along a walk come to.
     fn combined(a: i32, b: i32) -> i32;
 
@@ -15,6 +19,14 @@ pub trait Kind: TicketCost {
 }
 
 impl Kind for Delay {
+    fn of_number(number: i32) -> Delay {
+        Delay { half_lines: number }
+    }
+
+    fn number(self) -> i32 {
+        self.half_lines
+    }
+
     fn combined(a: i32, b: i32) -> i32 {
         a.saturating_add(b)
     }
@@ -31,6 +43,16 @@ impl Kind for Delay {
 }
 
 impl Kind for Depth {
+    fn of_number(number: i32) -> Depth {
+        Depth {
+            bits: u8::try_from(number).unwrap_or(0),
+        }
+    }
+
+    fn number(self) -> i32 {
+        i32::from(self.bits)
+    }
+
     fn combined(a: i32, b: i32) -> i32 {
         a.min(b)
     }

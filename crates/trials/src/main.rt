@@ -29,7 +29,7 @@ fn play_list(rt: &HostRuntime, dice: &mut Dice) -> anyhow::Result<()> {
 
 // A matrix that is told so many formats and has so few places.
 fn play_ill_matrix(rt: &HostRuntime, n: usize, dice: &mut Dice) -> anyhow::Result<()> {
-    let mut places: [Option<Delay>; 24] = [Some(Delay { lines: 1 }); 24];
+    let mut places: [Option<Delay>; 24] = [Some(Delay { half_lines: 1 }); 24];
     let check = Change(Matrix::check(n, &places));
     println!(rt; "matrix of {n} in 24 places: {check}")?;
     play(

@@ -35,13 +35,13 @@ impl Checksum {
     }
 }
 
-// Lines of a card: often around the bounds.
-fn lines(dice: &mut Dice) -> i32 {
+// Half lines of a card: often around the bounds.
+fn half_lines(dice: &mut Dice) -> i32 {
     match dice.below(12) {
-        0 => 1_000_000,
-        1 => 1_000_001,
-        2 => -1_000_000,
-        3 => -1_000_001,
+        0 => 2_000_000,
+        1 => 2_000_001,
+        2 => -2_000_000,
+        3 => -2_000_001,
         4 => i32::MAX,
         5 => i32::MIN,
         _ => dice.number(-9, 19),
@@ -66,11 +66,11 @@ fn call<R: Register<Cost = Delay>>(
     let sort = dice.below(4);
     let from = end(dice, register.size());
     let to = end(dice, register.size());
-    let lines = lines(dice);
+    let half_lines = half_lines(dice);
     match sort {
         0 | 1 => {
-            let change = Change(register.enter(from, to, Delay { lines }));
-            format!(in heap; "enter {from} {to} {lines} {change}")
+            let change = Change(register.enter(from, to, Delay { half_lines }));
+            format!(in heap; "enter {from} {to} {half_lines} {change}")
         }
         2 => {
             let change = Change(register.withdraw(from, to));
@@ -78,8 +78,8 @@ fn call<R: Register<Cost = Delay>>(
         }
         _ => match register.card(from, to) {
             Some(card) => {
-                let lines = card.lines;
-                format!(in heap; "card {from} {to} {lines}")
+                let half_lines = card.half_lines;
+                format!(in heap; "card {from} {to} {half_lines}")
             }
             None => format!(in heap; "card {from} {to} -"),
         },

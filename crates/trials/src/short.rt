@@ -28,7 +28,7 @@ fn answer_in(rt: &HostRuntime, what: &str, room: Room) -> anyhow::Result<()> {
     let heap = rt.alloc();
     let mut entries = vec![in heap; None; room.entries]?;
     let mut table = vec![in heap; Cell::empty(); room.cells]?;
-    let mut costs = vec![in heap; Delay { lines: 7 }; room.costs]?;
+    let mut costs = vec![in heap; Delay { half_lines: 7 }; room.costs]?;
     let mut chains = vec![in heap; 9; room.bytes]?;
     let mut memory = Memory {
         entries: entries.as_mut_slice(),
@@ -44,7 +44,8 @@ fn answer_in(rt: &HostRuntime, what: &str, room: Room) -> anyhow::Result<()> {
         Ok(legs) => println!(rt; "{what}: {legs} legs")?,
         Err(refusal) => println!(rt; "{what}: {} at {}", refusal.fault.code(), refusal.byte)?,
     }
-    let as_found = costs.iter().all(|cost| cost.lines == 7) && chains.iter().all(|byte| *byte == 9);
+    let as_found = costs.iter().all(|cost| cost.half_lines == 7)
+        && chains.iter().all(|byte| *byte == 9);
     println!(rt; "sheets {}", if as_found { "as found" } else { "written" })?;
     Ok(())
 }

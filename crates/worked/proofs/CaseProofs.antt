@@ -150,7 +150,7 @@ abbrev pair_heights : ℕ → ℤ
 pair_heights = heights (pos 0 ∷ pos 0 ∷ pos 5 ∷ [])
 
 abbrev house_heights : ℕ → ℤ
-house_heights = heights (negsuc 1 ∷ pos 1 ∷ negsuc 0 ∷ negsuc 0 ∷ pos 0 ∷ pos 1 ∷ pos 2 ∷ pos 2 ∷ [])
+house_heights = heights (negsuc 3 ∷ pos 2 ∷ negsuc 1 ∷ negsuc 1 ∷ pos 0 ∷ pos 2 ∷ pos 4 ∷ pos 4 ∷ [])
 
 abbrev pub rising : (ℕ → ℤ) → ℕ → ℕ → ℤ → Bool
 rising height a b c = le_z (height b) (height a +ℤ c)
@@ -192,8 +192,8 @@ barred_kept = table_passes (λ a b c. not (elsewhere a) || elsewhere b) (meant d
 depth_few : Pass (cards_of deeper_way) (λ a b c. not (eqb b 2) || leb c.count 8)
 depth_few = list_passes (λ a b c. not (eqb b 2) || leb c.count 8) deeper_way refl
 
-house_4_2 : Least delay open_house 4 2 (Some (negsuc 0))
-house_4_2 = least_by_heights open_house house_heights house_rises 4 2 (negsuc 0) (3 ∷ 0 ∷ [], (refl, (refl, refl)), refl) refl
+house_4_2 : Least delay open_house 4 2 (Some (negsuc 1))
+house_4_2 = least_by_heights open_house house_heights house_rises 4 2 (negsuc 1) (3 ∷ 0 ∷ [], (refl, (refl, refl)), refl) refl
 
 pub worked_cases : WorkedCases
 worked_cases = record {
@@ -206,13 +206,13 @@ worked_cases = record {
   house_is_even = no_gain open_house house_heights house_rises;
   house_4_2 = house_4_2;
   house_chain_4_2 = (((refl, (refl, refl)), omega arith), refl);
-  house_4_6 = least_by_heights open_house house_heights house_rises 4 6 (pos 2) (3 ∷ 0 ∷ [], (refl, (refl, refl)), refl) refl;
+  house_4_6 = least_by_heights open_house house_heights house_rises 4 6 (pos 4) (3 ∷ 0 ∷ [], (refl, (refl, refl)), refl) refl;
   house_chain_4_6 = (((refl, (refl, refl)), omega arith), refl);
   house_other_4_6 = (((refl, (refl, (refl, refl))), omega arith), refl);
-  reversed_2_4 = least_back delay_lawful open_house reversed_house turned 4 2 (Some (negsuc 0)) house_4_2;
+  reversed_2_4 = least_back delay_lawful open_house reversed_house turned 4 2 (Some (negsuc 1)) house_4_2;
   reversed_chain_2_4 = (((refl, (refl, refl)), omega arith), refl);
   barred_4_2 = no_walk delay barred_house elsewhere barred_kept 4 2 refl refl;
-  barred_4_6 = least_by_heights barred_house house_heights barred_rises 4 6 (pos 2) (3 ∷ 5 ∷ 1 ∷ [], (refl, (refl, (refl, refl))), refl) refl;
+  barred_4_6 = least_by_heights barred_house house_heights barred_rises 4 6 (pos 4) (3 ∷ 5 ∷ 1 ∷ [], (refl, (refl, (refl, refl))), refl) refl;
   barred_chain_4_6 = (((refl, (refl, (refl, refl))), omega arith), refl);
   depth_0_2 = least_by_last (cards_of deeper_way) 2 8 depth_few 0 (bits 8) (1 ∷ [], (refl, refl), same_bits _ _ refl) refl;
 }

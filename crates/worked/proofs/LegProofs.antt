@@ -58,7 +58,7 @@ pub record Tested {C : Type 0} (K : Kind C) : Type 0 where
   pub undercuts : (x y : K.algebra.Value) → under x y ≡ true → K.algebra.Under x y
 
 abbrev pub delay_test : Tested delays
-delay_test = record { some = record { lines = pos 0 }; under = lt_z; undercuts = λ x y e. record { lt = subst T (sym e) tt } }
+delay_test = record { some = record { half_lines = pos 0 }; under = lt_z; undercuts = λ x y e. record { lt = subst T (sym e) tt } }
 
 abbrev pub depth_test : Tested depths
 depth_test = record { some = record { bits = 0 }; under = λ x y. ltb y.count x.count; undercuts = λ x y e. ltb-true y.count x.count e }

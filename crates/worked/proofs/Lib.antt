@@ -5,3 +5,4 @@ pub mod RouteProofs
 pub mod SampleLines
 pub mod SampleRoute
 pub mod SampleAnswer
+pub mod TextProofs

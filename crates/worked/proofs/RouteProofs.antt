@@ -47,13 +47,13 @@ worked_routes = record {
       least_chains delay_test pair_set 1 2 (pos 5) (0 ∷ []) [] (refl, refl) (refl, tt) refl ∷ []);
   gain_elsewhere_refused = always_refused delays elsewhere_set worked_cases.elsewhere_gains (from_to 0 1 ∷ []);
   open_house_granted = always_granted delay_test open_set worked_cases.house_is_even (
-      least_chains delay_test open_set 4 2 (negsuc 0) (3 ∷ 0 ∷ []) [] (refl, (refl, refl)) (refl, tt) refl ∷
-      least_chains delay_test open_set 4 6 (pos 2) (3 ∷ 0 ∷ []) ((4 ∷ 3 ∷ 5 ∷ 1 ∷ 6 ∷ []) ∷ []) (refl, (refl, refl)) (refl, (refl, tt)) refl ∷ []);
+      least_chains delay_test open_set 4 2 (negsuc 1) (3 ∷ 0 ∷ []) [] (refl, (refl, refl)) (refl, tt) refl ∷
+      least_chains delay_test open_set 4 6 (pos 4) (3 ∷ 0 ∷ []) ((4 ∷ 3 ∷ 5 ∷ 1 ∷ 6 ∷ []) ∷ []) (refl, (refl, refl)) (refl, (refl, tt)) refl ∷ []);
   barred_house_granted = always_granted delay_test barred_set barred_is_even (
       no_chain barred_set 4 2 refl ∷
-      least_chains delay_test barred_set 4 6 (pos 2) (3 ∷ 5 ∷ 1 ∷ []) [] (refl, (refl, (refl, refl))) (refl, tt) refl ∷ []);
+      least_chains delay_test barred_set 4 6 (pos 4) (3 ∷ 5 ∷ 1 ∷ []) [] (refl, (refl, (refl, refl))) (refl, tt) refl ∷ []);
   reversed_house_granted = always_granted delay_test reversed_set reversed_is_even (
-      least_chains delay_test reversed_set 2 4 (negsuc 0) (0 ∷ 3 ∷ []) [] (refl, (refl, refl)) (refl, tt) refl ∷ []);
+      least_chains delay_test reversed_set 2 4 (negsuc 1) (0 ∷ 3 ∷ []) [] (refl, (refl, refl)) (refl, tt) refl ∷ []);
   deeper_way_granted = always_granted depth_test deeper_set (depth_is_even (cards_of deeper_way)) (
       least_chains depth_test deeper_set 0 2 (bits 8) (1 ∷ []) [] (refl, refl) (same_bits _ _ refl, tt) refl ∷ []);
 }

@@ -1,8 +1,9 @@
--- All worked cases: those of walks, of their least costs and of their gains, what routes are answered, and what the sample
--- ticket is answered.
+-- All worked cases: those of walks, of their least costs and of their gains, what routes are answered, how delays are written,
+-- and what the sample ticket is answered.
 use Rattle.worked.specs.Walks.{WorkedCases}
 use Rattle.worked.specs.Routes.{RouteCases}
 use Rattle.worked.specs.Sample.{SampleAnswered}
+use Rattle.worked.specs.Texts.{TextCases}
 
 pub record AllCases : Type 0 where
   -- the sample ticket prints its listing, whatever the memory holds
@@ -11,3 +12,5 @@ pub record AllCases : Type 0 where
   pub walks : WorkedCases
   -- what every route over these cards is answered, whatever the memory and the notes hold
   pub routes : RouteCases
+  -- how delays are written
+  pub texts : TextCases

@@ -1,4 +1,5 @@
 pub mod Sample
 pub mod Walks
 pub mod Routes
+pub mod Texts
 pub mod Cases

@@ -1,5 +1,5 @@
 -- Worked routes: what every route over given cards, for given legs, is answered, whatever the memory and the notes hold.
--- Where several chains cost least, a leg may have the row of any of them.
+-- Where several chains cost least, a leg may have the row of any of them. Delays are in half lines.
 use Rattle.std.specs.Prelude.{◌≡◌, ℕ, List, [], ◌∷◌, map, length, pos, Some, Option, Ok, Contains, slice_get, slice_index_or}
 use Rattle.costs.specs.declared.Cost.{Ghosts as Kind}
 use Rattle.costs.specs.Algebra.{Algebra}
@@ -70,15 +70,15 @@ pub record RouteCases : Type 0 where
   pub gain_elsewhere_refused : AlwaysRefused delays (cards_of gain_elsewhere) (from_to 0 1 ∷ [])
   -- the house table as it is: from 4 to 6 two chains tie
   pub open_house_granted : AlwaysGranted delays open_house (
-      by_chains 4 2 (back 1) ((4 ∷ 3 ∷ 0 ∷ 2 ∷ []) ∷ []) ∷
-      by_chains 4 6 (pos 2) ((4 ∷ 3 ∷ 0 ∷ 6 ∷ []) ∷ (4 ∷ 3 ∷ 5 ∷ 1 ∷ 6 ∷ []) ∷ []) ∷ [])
+      by_chains 4 2 (back 2) ((4 ∷ 3 ∷ 0 ∷ 2 ∷ []) ∷ []) ∷
+      by_chains 4 6 (pos 4) ((4 ∷ 3 ∷ 0 ∷ 6 ∷ []) ∷ (4 ∷ 3 ∷ 5 ∷ 1 ∷ 6 ∷ []) ∷ []) ∷ [])
   -- with the format 0 barred
   pub barred_house_granted : AlwaysGranted delays barred_house (
       chainless delay 4 2 ∷
-      by_chains 4 6 (pos 2) ((4 ∷ 3 ∷ 5 ∷ 1 ∷ 6 ∷ []) ∷ []) ∷ [])
+      by_chains 4 6 (pos 4) ((4 ∷ 3 ∷ 5 ∷ 1 ∷ 6 ∷ []) ∷ []) ∷ [])
   -- with every card turned round
   pub reversed_house_granted : AlwaysGranted delays reversed_house (
-      by_chains 2 4 (back 1) ((2 ∷ 0 ∷ 3 ∷ 4 ∷ []) ∷ []) ∷ [])
+      by_chains 2 4 (back 2) ((2 ∷ 0 ∷ 3 ∷ 4 ∷ []) ∷ []) ∷ [])
   -- of depths the most bits are the best
   pub deeper_way_granted : AlwaysGranted depths (cards_of deeper_way) (
       by_chains 0 2 (bits 8) ((0 ∷ 1 ∷ 2 ∷ []) ∷ []) ∷ [])

@@ -1,4 +1,5 @@
--- Worked cases: what walks, their least costs and their gains are on a few small sets of cards and on the house table.
+-- Worked cases: what walks, their least costs and their gains are on a few small sets of cards and on the house table. Delays are
+-- in half lines.
 -- A function of the crate has all of them as its contract.
 use Rattle.std.specs.Prelude.{◌≡◌, ℕ, cond, ◌&&◌, List, [], ◌∷◌, ℤ, pos, neg_ℤ, Some, None, Option, ◌==◌}
 use Rattle.costs.specs.Algebra.{Algebra}
@@ -25,11 +26,11 @@ delays_of m = standing (meant delays m)
 abbrev pub ChainCosts : (A : Algebra) → (ℕ → ℕ → Option A.Value) → List ℕ → A.Value → Type 0
 ChainCosts A card fs x = Chain A card fs × (cost A card fs ≡ x)
 
--- so many lines given back
+-- so many half lines given back
 abbrev pub back : ℕ → ℤ
 back n = neg_ℤ (pos n)
 
--- round three formats, with a gain of one line
+-- round three formats, with a gain of half a line
 abbrev pub gaining_ring : List (ℕ × ℕ × ℤ)
 gaining_ring = (0, 1, pos 2) ∷ (1, 2, back 4) ∷ (2, 0, pos 1) ∷ []
 
@@ -41,7 +42,7 @@ even_ring = (0, 1, pos 2) ∷ (1, 2, back 4) ∷ (2, 0, pos 2) ∷ []
 abbrev pub free_pair : List (ℕ × ℕ × ℤ)
 free_pair = (0, 1, pos 0) ∷ (1, 0, pos 0) ∷ (0, 2, pos 5) ∷ []
 
--- there and back with a gain of one line, at formats that a leg from 0 to 1 never meets
+-- there and back with a gain of half a line, at formats that a leg from 0 to 1 never meets
 abbrev pub gain_elsewhere : List (ℕ × ℕ × ℤ)
 gain_elsewhere = (2, 3, back 1) ∷ (3, 2, pos 0) ∷ []
 
@@ -75,24 +76,24 @@ pub record WorkedCases : Type 0 where
   -- the house table has no closed walk that undercuts the unit
   pub house_is_even : Gains delay open_house → ⊥
   -- from 4 to 2 at best one line is given back
-  pub house_4_2 : Least delay open_house 4 2 (Some (back 1))
+  pub house_4_2 : Least delay open_house 4 2 (Some (back 2))
   -- as the chain by way of 3 and 0 does
-  pub house_chain_4_2 : ChainCosts delay open_house (4 ∷ 3 ∷ 0 ∷ 2 ∷ []) (back 1)
+  pub house_chain_4_2 : ChainCosts delay open_house (4 ∷ 3 ∷ 0 ∷ 2 ∷ []) (back 2)
   -- from 4 to 6 the least cost is two lines
-  pub house_4_6 : Least delay open_house 4 6 (Some (pos 2))
+  pub house_4_6 : Least delay open_house 4 6 (Some (pos 4))
   -- one chain of that cost goes by way of 0
-  pub house_chain_4_6 : ChainCosts delay open_house (4 ∷ 3 ∷ 0 ∷ 6 ∷ []) (pos 2)
+  pub house_chain_4_6 : ChainCosts delay open_house (4 ∷ 3 ∷ 0 ∷ 6 ∷ []) (pos 4)
   -- and another, longer one does not
-  pub house_other_4_6 : ChainCosts delay open_house (4 ∷ 3 ∷ 5 ∷ 1 ∷ 6 ∷ []) (pos 2)
+  pub house_other_4_6 : ChainCosts delay open_house (4 ∷ 3 ∷ 5 ∷ 1 ∷ 6 ∷ []) (pos 4)
   -- with every card turned round, from 2 to 4 at best one line is given back
-  pub reversed_2_4 : Least delay reversed_house 2 4 (Some (back 1))
+  pub reversed_2_4 : Least delay reversed_house 2 4 (Some (back 2))
   -- by the chain from 4 to 2, backwards
-  pub reversed_chain_2_4 : ChainCosts delay reversed_house (2 ∷ 0 ∷ 3 ∷ 4 ∷ []) (back 1)
+  pub reversed_chain_2_4 : ChainCosts delay reversed_house (2 ∷ 0 ∷ 3 ∷ 4 ∷ []) (back 2)
   -- with 0 barred no walk leads from 4 to 2
   pub barred_4_2 : Least delay barred_house 4 2 None
   -- with 0 barred the least cost from 4 to 6 is still two lines
-  pub barred_4_6 : Least delay barred_house 4 6 (Some (pos 2))
+  pub barred_4_6 : Least delay barred_house 4 6 (Some (pos 4))
   -- by the chain that does not pass 0
-  pub barred_chain_4_6 : ChainCosts delay barred_house (4 ∷ 3 ∷ 5 ∷ 1 ∷ 6 ∷ []) (pos 2)
+  pub barred_chain_4_6 : ChainCosts delay barred_house (4 ∷ 3 ∷ 5 ∷ 1 ∷ 6 ∷ []) (pos 4)
   -- of depths the most bits are the best: 8 by way of 1, not the 6 of the card from 0 to 2
   pub depth_0_2 : Least depth (cards_of deeper_way) 0 2 (Some (bits 8))

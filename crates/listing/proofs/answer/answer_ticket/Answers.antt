@@ -1,5 +1,6 @@
 use Rattle.std.proofs.Common.{ℕ, List, Ok, Err, Result}
 use Rattle.costs.specs.declared.Cost.{Ghosts as CostKind}
+use Rattle.ticket.specs.Kinds.{read_as}
 use Rattle.ticket.specs.Answers.{Contents, KindAnswer}
 use Rattle.ticket.specs.declared.fault.Refusal.{Refusal}
 use Rattle.ticket.specs.Texts.{CostTexts, texts}
@@ -8,7 +9,7 @@ use Rattle.ticket_laws.proofs.Wholes.{granted_kind}
 use Rattle.listing.specs.Answered.{WholeIf}
 use Rattle.listing.proofs.answer.answer_ticket.Goals as goal
 
-whole_if : {C : Type 0} (K : CostKind C) (T : CostTexts C) (text : List ℕ) (bay : BayLine) (m m' : Contents C) (answer : Result ℕ Refusal) → KindAnswer K T.reads text bay.end m m' answer bay.size → WholeIf K T text bay m' answer
+whole_if : {C : Type 0} (K : CostKind C) (T : CostTexts C) (text : List ℕ) (bay : BayLine) (m m' : Contents C) (answer : Result ℕ Refusal) → KindAnswer K (read_as bay.kind T.reads) text bay.end m m' answer bay.size → WholeIf K T text bay m' answer
 whole_if K T text bay m m' (Ok legs) right = λ has. granted_kind K T.reads text bay has m m' legs right
 whole_if K T text bay m m' (Err refusal) right = tt
 

@@ -7,4 +7,4 @@ use Rattle.ticket.proofs.formats.read_formats.Given as goal
 abbrev pub invariant-loop-k : goal.invariant-loop-k
 invariant-loop-k g l =
     (length l.codes ≡ most_formats) ×
-    FormatsRead g.C.Cost g.C.TicketCost.reads l.text l.from l.n l.k l.initial.codes l.codes l.place
+    FormatsRead g.C.Cost l.text l.from l.n l.k l.initial.codes l.codes l.place

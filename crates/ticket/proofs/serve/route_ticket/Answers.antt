@@ -5,6 +5,7 @@ use Rattle.costs.specs.Kind.{admits}
 use Rattle.registers.specs.Meaning.{meant}
 use Rattle.lent.specs.List.{listed}
 use Rattle.bay.specs.Plain.{ends}
+use Rattle.ticket.specs.Kinds.{read_as}
 use Rattle.ticket.specs.Said.{begins, ticket_entries}
 use Rattle.ticket.proofs.Serving.{bay_fits, entries_beyond, lines_with_entries, list_begins}
 use Rattle.ticket.proofs.serve.route_ticket.Goals as goal
@@ -22,7 +23,7 @@ returns-clause-answer g c =
     record {
       answered = inr (record {
         no_cause = none;
-        lines = lines_with_entries K g.C.TicketCost.reads c.args.text.now c.args.bay.end m.entries.now _ _ _ _ _ (begins n)
+        lines = lines_with_entries K (read_as c.args.bay.kind g.C.TicketCost.reads) c.args.text.now c.args.bay.end m.entries.now _ _ _ _ _ (begins n)
             (λ i. record { codes = []; plain = record { register = made i; legs = ap (map ends) c.new-made.ensures.legs i } }) c.route_lines.ensures.answer;
       });
       beyond = search (arith, entries_beyond);

@@ -7,4 +7,4 @@ use Rattle.lines.proofs.reader.Reader.kind_letter.Goals as goal
 pub returns : goal.returns
 returns c =
     let e : kind_choice ≡ to_come c.args.self.now = kind_over c.args.self.now c.requires.at (omega arith) in
-    subst (λ t. word_rest c.match-sign.self 3 ≡ after_byte t c.args.sign) e (search rules)
+    subst (λ t. word_rest c.args.self.now.stage c.match-sign.self 3 ≡ after_byte t c.args.sign) e (search rules)
