@@ -1,3 +1,4 @@
 pub mod Totals
 pub mod Matrices
+pub mod Ordered
 pub mod Listed

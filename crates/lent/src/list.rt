@@ -1,10 +1,10 @@
 // The list: a register that takes an entry for each card, in memory that its maker lends.
-ghost use Rattle.std.specs.Prelude.{◌≡◌, ℕ, ◌<◌, ◌≤◌, true, length, is_some, position, IfSome, Some, None, MatchOption, slice_set};
+ghost use Rattle.std.specs.Prelude.{◌≡◌, ℕ, ◌<◌, ◌≤◌, ◌+◌, ◌-◌, true, length, is_some, IfSome, Some, MatchResult, slice_index_or};
 ghost use Rattle.registers.specs.Fault.{first_cause, refusal, after};
 ghost use Rattle.registers.specs.Meaning.{possible, entered, withdrawn, enter_causes, withdraw_causes};
 ghost use Rattle.costs.specs.Kind.{admits};
-ghost use Rattle.lent.specs.Lent.{begun, how_many};
-ghost use Rattle.lent.specs.List.{entries_fit, list_fits, list_causes, live, cost_for, first_cost, without, listed, list_means, list_cleared, Free, Writable, Full};
+ghost use Rattle.lent.specs.Lent.{begun};
+ghost use Rattle.lent.specs.List.{entries_fit, list_fits, list_causes, cost_for, first_cost, is_for, is_lower, listed, list_cleared, shifted_up, shifted_down, with_entry, without, FirstLive, Rising, EmptyFrom, InOrder, FoundAt, NoneAt};
 
 use crate::memory::{judge_memory, nearest_size, size_fits};
 use costs::Cost;
@@ -12,9 +12,6 @@ use registers::{Format, MOST_FORMATS, Register, RegisterFault, judge_ends, judge
 
 // A list can use at most so many entries: one for each pair of the most formats.
 pub const MOST_ENTRIES: usize = MOST_FORMATS * (MOST_FORMATS - 1);
-
-// A place for each pair of the most formats, equal ends too.
-const MOST_PLACES: usize = MOST_FORMATS * MOST_FORMATS;
 
 // The card of a pair.
 #[derive(Clone, Copy, Debug)]
@@ -24,19 +21,32 @@ pub struct Entry<C> {
     pub cost: C,
 }
 
-// A register of `n` formats that takes one of `entries` for each card, in any order and searched from the front: a map would
-// ask for memory of its own. Where `n` or the memory will not do, it has no card and no free place, and every pair is sealed.
-pub struct List<'a, C> {
+// A register of `n` formats that takes one of `entries` for each card. The entries that hold a card come first and rise by
+// their pairs, so that a pair is found by halving; those behind them are empty. Where `n` or the memory will not do, it has no
+// card and no free place, and every pair is sealed.
+pub struct List<'a, C: Cost> {
     entries: &'a mut [Option<Entry<C>>],
     n: usize,
+    // so many entries hold a card
+    count: usize,
+    ghost few: { count ≤ length entries.now },
+    ghost live: { FirstLive (admits C.Cost) n count entries.now },
+    ghost rise: { Rising count entries.now },
+    ghost clear: { list_fits n (length entries.now) ≡ true → EmptyFrom count entries.now },
 }
 
-// When it ends, the memory is given back as the list had it.
-impl<C> Drop for List<'_, C> {
+// When it ends, the memory is given back as the list had it: the cards in the order of their pairs, and then empty entries.
+impl<C: Cost> Drop for List<'_, C> {
     fn drop(self)
-        ensures { self.exit.0.now ≡ self.entry.entries.now }
+        ensures memory { self.exit.0.now ≡ self.entry.entries.now }
+        ensures order { let fits = list_fits self.entry.n (length self.exit.0.now) in
+            fits ≡ true → (count : ℕ) × InOrder (admits C.Cost) self.entry.n count self.exit.0.now }
     {
-        let List { entries: _, n: _ } = self;
+        let List {
+            entries: _,
+            n: _,
+            count: _,
+        } = self;
     }
 }
 
@@ -54,28 +64,40 @@ fn list_fits(n: usize, entries: usize) -> bool
     size_fits(n) && entries_fit(entries)
 }
 
-// Whether the two are different formats below n. Not by `judge_entry`: every search of the list asks this of each entry, and
-// the plain test is the faster one.
-fn is_possible(n: usize, from: Format, to: Format) -> bool
-    ensures { result ≡ possible n from to }
+// Whether an entry is for a lower pair: by the first format, and then by the second.
+fn is_lower<C: Cost>(held: Option<Entry<C>>, from: Format, to: Format) -> bool
+    ensures { result ≡ is_lower held from to }
 {
-    from < n && to < n && from != to
+    held.is_some_and(|entry| entry.from < from || entry.from == from && entry.to < to)
 }
 
-// The entry, where it can hold a card.
-fn live_entry<C: Cost>(n: usize, held: Option<Entry<C>>) -> Option<Entry<C>>
-    ensures { result ≡ live (admits C.Cost) n held }
+// Whether an entry is for a pair.
+fn is_for<C: Cost>(held: Option<Entry<C>>, from: Format, to: Format) -> bool
+    ensures { result ≡ is_for held from to }
 {
-    held.filter(|entry| is_possible(n, entry.from, entry.to) && entry.cost.admitted())
+    held.is_some_and(|entry| entry.from == from && entry.to == to)
 }
 
-// The cost that an entry has for a pair.
-fn cost_for_pair<C: Cost>(n: usize, held: Option<Entry<C>>, from: Format, to: Format) -> Option<C>
-    ensures { result ≡ cost_for (admits C.Cost) n held from to }
+// Puts an entry at a place among the first `count`; those from there on move up by one.
+fn shift_up<C: Cost>(entries: &mut [Option<Entry<C>>], count: usize, place: usize, entry: Entry<C>)
+    requires place { place ≤ count }
+    requires room { count < length entries.old }
+    requires clear { EmptyFrom count entries.old }
+    ensures { entries.new ≡ shifted_up entries.old place (Some entry) }
 {
-    // The pair is compared first: a search goes by many entries of other pairs.
-    let entry = held.filter(|entry| entry.from == from && entry.to == to)?;
-    live_entry(n, Some(entry)).map(|entry| entry.cost)
+    entries.copy_within(place..count, place + 1);
+    entries[place] = Some(entry);
+}
+
+// Takes the entry at a place out of the first `count`; those behind it move down by one.
+fn shift_down<C: Cost>(entries: &mut [Option<Entry<C>>], count: usize, place: usize)
+    requires place { place < count }
+    requires few { count ≤ length entries.old }
+    requires clear { EmptyFrom count entries.old }
+    ensures { entries.new ≡ shifted_down entries.old place }
+{
+    entries.copy_within(place + 1..count, place);
+    entries[count - 1] = None;
 }
 
 impl<'a, C: Cost> List<'a, C> {
@@ -88,7 +110,8 @@ impl<'a, C: Cost> List<'a, C> {
 
     // A list with no card; made with what will not do, it refuses every change.
     pub fn new(n: usize, entries: &'a mut [Option<Entry<C>>]) -> List<'a, C>
-        ensures holds { listed (admits C.Cost) result.n result.entries.now ≡ begun n (list_fits n (length entries.old)) (length entries.old) }
+        ensures holds { let long = length entries.old in
+            listed (admits C.Cost) result.n result.entries.now ≡ begun n (list_fits n long) long }
         ensures memory { result.entries.now ≡ list_cleared n entries.old }
         ensures size { result.n ≡ n }
         ensures lent { result.entries.ghost_name ≡ entries.entry.ghost_name }
@@ -96,78 +119,43 @@ impl<'a, C: Cost> List<'a, C> {
         if list_fits(n, entries.len()) {
             entries.fill(None);
         }
-        List { entries, n }
+        List {
+            entries,
+            n,
+            count: 0,
+        }
     }
 
-    // Where the first entry for a pair lies.
-    fn entry_for(&self, from: Format, to: Format) -> Option<usize>
-        ensures { result ≡ position (λ e. is_some (cost_for (admits C.Cost) self.now.n e from to)) self.now.entries.now }
+    // Where a pair's entry lies, or else where it would: behind those of lower pairs.
+    fn search(&self, from: Format, to: Format) -> Result<usize, usize>
+        requires { list_fits self.now.n (length self.now.entries.now) ≡ true }
+        ensures { let l = self.now in
+            MatchResult result (FoundAt (admits C.Cost) l.n l.count l.entries.now from to)
+            (NoneAt (admits C.Cost) l.n l.count l.entries.now from to) }
     {
-        let n = self.n;
-        self.entries
-            .iter()
-            .position(|held| cost_for_pair(n, *held, from, to).is_some())
+        let place = self.entries[..self.count].partition_point(|held| is_lower(*held, from, to));
+        if place < self.count && is_for(self.entries[place], from, to) {
+            Ok(place)
+        } else {
+            Err(place)
+        }
     }
 
-    // The cost of the first entry for a pair.
-    fn first_cost_for(&self, from: Format, to: Format) -> Option<C>
-        ensures value { result ≡ first_cost (admits C.Cost) self.now.n self.now.entries.now from to }
+    // The cost that is held for a pair.
+    fn cost_held(&self, from: Format, to: Format) -> Option<C>
+        requires { list_fits self.now.n (length self.now.entries.now) ≡ true }
+        ensures value { let l = self.now in
+            result ≡ first_cost (admits C.Cost) l.n l.entries.now from to }
         ensures admitted { IfSome result (λ x. admits C.Cost x ≡ true) }
     {
-        let i = self.entry_for(from, to)?;
-        cost_for_pair(self.n, self.entries[i], from, to)
-    }
-
-    // Where the first free entry lies. Memory that the list did not write can have two entries for a pair: then the later
-    // one is free.
-    fn free_entry(&self) -> Option<usize>
-        requires { self.now.n ≤ 64 }
-        ensures { MatchOption result (how_many self.now.n (first_cost (admits C.Cost) self.now.n self.now.entries.now) ≡ length self.now.entries.now) (λ i. (i < length self.now.entries.now) × Free (admits C.Cost) self.now.n self.now.entries.now i) }
-    {
-        let mut seen = [false; MOST_PLACES];
-        for (i, held) in self.entries.iter().enumerate() {
-            let Some(entry) = live_entry(self.n, *held) else {
-                return Some(i);
-            };
-            let place = entry.from * MOST_FORMATS + entry.to;
-            if seen[place] {
-                return Some(i);
-            }
-            seen[place] = true;
-        }
-        None
-    }
-
-    // Where a pair's card goes: into its entry, or else into a free one.
-    fn entry_to_write(&self, from: Format, to: Format) -> Option<usize>
-        requires { self.now.n ≤ 64 }
-        ensures { MatchOption result (Full (admits C.Cost) self.now.n self.now.entries.now from to) (λ i. Writable (admits C.Cost) self.now.n self.now.entries.now from to i) }
-    {
-        let found = self.entry_for(from, to);
-        // Not `or_else`: of what its closure answers the proof would know nothing.
-        if found.is_some() {
-            found
-        } else {
-            self.free_entry()
-        }
-    }
-
-    // Clears every entry for a pair.
-    fn remove(&mut self, from: Format, to: Format)
-        ensures memory { self.new.entries.now ≡ without (admits C.Cost) self.old.n from to self.old.entries.now }
-        ensures size { self.new.n ≡ self.old.n }
-        ensures lent { self.new.entries.ghost_name ≡ self.old.entries.ghost_name }
-    {
-        let n = self.n;
-        for held in self.entries.iter_mut() {
-            if cost_for_pair(n, *held, from, to).is_some() {
-                *held = None;
-            }
-        }
+        let place = self.search(from, to).ok()?;
+        self.entries[place].map(|entry| entry.cost)
     }
 }
 
 impl<'a, C: Cost> Register for List<'a, C> {
+    ghost use Rattle.lent.specs.Held.{list_means};
+
     type Cost = C;
 
     ghost holds = { λ l. listed (admits C.Cost) l.n l.entries.now };
@@ -181,14 +169,19 @@ impl<'a, C: Cost> Register for List<'a, C> {
         if !list_fits(self.n, self.entries.len()) {
             return None;
         }
-        self.first_cost_for(from, to)
+        self.cost_held(from, to)
     }
 
-    // Also what happens to the lent memory: a granted call writes one entry, and nothing else is touched.
+    // Also what happens to the lent memory: a granted call writes the pair's entry in its place, and those of higher pairs
+    // move up by one where the pair is new.
     fn enter(&mut self, from: Format, to: Format, cost: C) -> Result<(), RegisterFault>
-        ensures answer { refusal result ≡ first_cause (enter_causes (list_means C.Cost self.old) from to (admits C.Cost cost)) }
-        ensures after { list_means C.Cost self.new ≡ after (refusal result) (list_means C.Cost self.old) (entered (list_means C.Cost self.old) from to (C.value cost)) }
-        ensures memory { (i : ℕ) × (self.new.entries.now ≡ after (refusal result) self.old.entries.now (slice_set self.old.entries.now i (Some (record { from = from; to = to; cost = cost })))) }
+        ensures answer { let m = list_means self.old in
+            refusal result ≡ first_cause (enter_causes m from to (admits C.Cost cost)) }
+        ensures after { let m = list_means self.old in
+            list_means self.new ≡ after (refusal result) m (entered m from to (C.value cost)) }
+        ensures memory { let es = self.old.entries.now in
+            let written = with_entry (admits C.Cost) self.old.n from to cost es in
+            self.new.entries.now ≡ after (refusal result) es written }
         ensures size { self.new.n ≡ self.old.n }
         ensures lent { self.new.entries.ghost_name ≡ self.old.entries.ghost_name }
     {
@@ -196,20 +189,31 @@ impl<'a, C: Cost> Register for List<'a, C> {
         if !list_fits(self.n, self.entries.len()) {
             return Err(RegisterFault::Sealed);
         }
-        // Over `ok_or(..)?` the proof of this refusal did not close.
-        let Some(i) = self.entry_to_write(from, to) else {
-            return Err(RegisterFault::NoPlace);
-        };
-        self.entries[i] = Some(Entry { from, to, cost });
-        Ok(())
+        let entry = Entry { from, to, cost };
+        match self.search(from, to) {
+            Ok(place) => {
+                self.entries[place] = Some(entry);
+                Ok(())
+            }
+            Err(place) => {
+                if self.count == self.entries.len() {
+                    return Err(RegisterFault::NoPlace);
+                }
+                shift_up(&mut *self.entries, self.count, place, entry);
+                self.count += 1;
+                Ok(())
+            }
+        }
     }
 
-    // Also what happens to the lent memory, in clauses since they are promises to its lender: a granted call clears the pair's
-    // entries, and nothing else is touched.
+    // Also what happens to the lent memory: a granted call clears the pair's entry, and those of higher pairs move down by one.
     fn withdraw(&mut self, from: Format, to: Format) -> Result<(), RegisterFault>
-        ensures answer { refusal result ≡ first_cause (withdraw_causes (list_means C.Cost self.old) from to) }
-        ensures after { list_means C.Cost self.new ≡ after (refusal result) (list_means C.Cost self.old) (withdrawn (list_means C.Cost self.old) from to) }
-        ensures memory { self.new.entries.now ≡ after (refusal result) self.old.entries.now (without (admits C.Cost) self.old.n from to self.old.entries.now) }
+        ensures answer { let m = list_means self.old in
+            refusal result ≡ first_cause (withdraw_causes m from to) }
+        ensures after { let m = list_means self.old in
+            list_means self.new ≡ after (refusal result) m (withdrawn m from to) }
+        ensures memory { let es = self.old.entries.now in
+            self.new.entries.now ≡ after (refusal result) es (without from to es) }
         ensures size { self.new.n ≡ self.old.n }
         ensures lent { self.new.entries.ghost_name ≡ self.old.entries.ghost_name }
     {
@@ -217,8 +221,9 @@ impl<'a, C: Cost> Register for List<'a, C> {
         if !list_fits(self.n, self.entries.len()) {
             return Err(RegisterFault::Sealed);
         }
-        self.card(from, to).ok_or(RegisterFault::NoCard)?;
-        self.remove(from, to);
+        let place = self.search(from, to).map_err(|_| RegisterFault::NoCard)?;
+        shift_down(&mut *self.entries, self.count, place);
+        self.count -= 1;
         Ok(())
     }
 }
