@@ -73,7 +73,6 @@ static uint32_t early(const struct job *job) {
         struct hurzelma_leg leg = job->legs[k];
         if (leg.from >= n) return fault(2, 11, 0);
         if (leg.to >= n) return fault(2, 11, 1);
-        if (leg.from == leg.to) return fault(2, 12, 1);
         if (k >= 32) return fault(2, 24, 0);
     }
     if (job->legs_length == 0) return fault(2, 25, 0);
@@ -116,7 +115,7 @@ static bool gains(const struct job *job) {
 /* Whether a row holds so many formats of a walk over standing cards, and 255 behind them; then the walk's cost. */
 static bool is_walk(const struct job *job, const uint8_t *row, int64_t *cost) {
     size_t count = row[0];
-    if (count < 2 || count > 65) return false;
+    if (count < 1 || count > 65) return false;
     *cost = unit(job);
     for (size_t i = 1; i < HURZELMA_ROW; i++) {
         if (i > count ? row[i] != 255 : row[i] >= job->n) return false;
@@ -139,7 +138,7 @@ static bool all_differ(const uint8_t *formats, size_t count) {
 
 static bool is_loop(const struct job *job, const uint8_t *row) {
     int64_t cost;
-    return is_walk(job, row, &cost) && row[1] == row[row[0]] && all_differ(row + 1, row[0] - 1u) && better(job, cost, unit(job));
+    return is_walk(job, row, &cost) && row[0] > 1 && row[1] == row[row[0]] && all_differ(row + 1, row[0] - 1u) && better(job, cost, unit(job));
 }
 
 /* Whether a leg's row and cost are right. */
@@ -211,8 +210,8 @@ static void draw_job(struct job *job) {
     for (size_t k = 0; k < job->legs_length; k++) {
         size_t last = job->n < 2 ? 1 : job->n - 1;
         job->legs[k].from = chance(300) ? SIZE_MAX : (size_t)draw(0, (int64_t)last);
-        job->legs[k].to = chance(300) ? job->n : (job->legs[k].from + (size_t)draw(1, (int64_t)last)) % (last + 1);
-        if (chance(300)) job->legs[k].to = job->legs[k].from;
+        job->legs[k].to = chance(300) ? job->n : (size_t)draw(0, (int64_t)last);
+        if (chance(10)) job->legs[k].to = job->legs[k].from;
     }
     job->costs_length = LEGS;
     job->chains_length = BYTES;
@@ -234,8 +233,9 @@ static uint32_t call(const struct job *job, struct left *left) {
     return told;
 }
 
-static const char ticket[] = "(bay delay 2)\n(format 0 UYVY)\n(format 1 v210)\n(card (0 1) -4.5)\n(leg (0 1))\n(leg (1 0))\n(end)\n";
-static const char answer[] = "(leg 0 (0 1) -4.5 (UYVY v210))\n(leg 1 (1 0) none)\n(end)\n";
+static const char ticket[] =
+    "(bay delay 2)\n(format 0 UYVY)\n(format 1 v210)\n(card (0 1) -4.5)\n(leg (0 1))\n(leg (1 0))\n(leg (1 1))\n(end)\n";
+static const char answer[] = "(leg 0 (0 1) -4.5 (UYVY v210))\n(leg 1 (1 0) none)\n(leg 2 (1 1) 0 (v210))\n(end)\n";
 
 enum { WANTED = sizeof answer - 1 };
 

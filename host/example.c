@@ -1,11 +1,11 @@
-/* A host in C: it asks for two routes by numbers and for the answers to two tickets, and prints what it is told. */
+/* A host in C: it asks for three routes by numbers and for the answers to two tickets, and prints what it is told. */
 #include "hurzelma.h"
 
 #include <stdio.h>
 #include <string.h>
 
 #define FORMATS 3
-#define LEGS 2
+#define LEGS 3
 
 static void print_told(uint32_t told) {
     printf("refused: layer %u, number %u, part %u\n", HURZELMA_LAYER(told), HURZELMA_NUMBER(told), HURZELMA_PART(told));
@@ -56,8 +56,8 @@ static void answer(const char *ticket, size_t room) {
 
 int main(void) {
     enum { NO = HURZELMA_NO_DELAY };
-    const struct hurzelma_leg legs[LEGS] = {{0, 1}, {1, 0}};
-    const struct hurzelma_leg wrong[LEGS] = {{0, 1}, {2, 2}};
+    const struct hurzelma_leg legs[LEGS] = {{0, 1}, {1, 0}, {2, 2}};
+    const struct hurzelma_leg wrong[LEGS] = {{0, 1}, {1, 0}, {2, 3}};
     const hurzelma_half_lines cards[FORMATS * FORMATS] = {
         NO, 8, 12,
         NO, NO, NO,

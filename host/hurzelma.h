@@ -21,7 +21,7 @@ extern "C" {
 #define HURZELMA_MOST_LEGS 32
 
 /* A row of a chain sheet: the number of formats in the chain, then the formats, a byte each, then 255 to its end. A chain begins
- * with its leg's first format and ends with its last. */
+ * with its leg's first format and ends with its last; where these are the same, the chain is that format alone. */
 #define HURZELMA_ROW 66
 
 /* A delay: so many half lines of video, below 0 where lines are given back. */
@@ -36,7 +36,7 @@ typedef uint8_t hurzelma_bits;
 
 #define HURZELMA_STACK (256 * 1024)
 
-/* The two formats of a leg. */
+/* The two formats of a leg, which may be the same. */
 struct hurzelma_leg {
     size_t from;
     size_t to;
@@ -53,7 +53,6 @@ struct hurzelma_leg {
 /* Why, and the part of the call that is meant; which leg is refused is not told:
  *   register 16: the number of formats (part 0), or fewer than n * n cards (1)
  *   bay 11: a leg's first (0) or last (1) format is not below n
- *   bay 12: a leg's formats are equal (part 1)
  *   bay 15: the cost sheet (1) has fewer entries than there are legs, or the chain sheet (2) fewer bytes than their rows
  *   bay 24: more than 32 legs
  *   bay 25: no legs
@@ -69,10 +68,11 @@ struct hurzelma_leg {
  * each way, with the smaller one better and delays added along a chain; its depth is 1 to 16 bits, with the larger one better and
  * a chain keeping the smallest of its cards.
  *
- * Granted, entry k of costs is the cost of leg k's chain, in half lines or in bits, and row k of chains holds the chain. Where no
- * chain leads from its first format to its last, the row has the number 0, and the cost is 0 half lines or 255 bits. Entries and
- * rows beyond the legs are as they were. Refused, all is as it was, but for row 0 after 26. The causes are judged in this order:
- * 16, for each leg 11, 12 and 24, then 25, 15, 26. */
+ * Granted, entry k of costs is the cost of leg k's chain, in half lines or in bits, and row k of chains holds the chain. A chain of
+ * one format, for a leg whose formats are the same, costs 0 half lines, or 255 bits. Where no chain leads from its first format to
+ * its last, the row has the number 0, and the cost is 0 half lines or 255 bits. Entries and rows beyond the legs are as they were.
+ * Refused, all is as it was, but for row 0 after 26. The causes are judged in this order: 16, for each leg 11 and 24, then 25, 15,
+ * 26. */
 uint32_t hurzelma_route_delay(size_t n, const hurzelma_half_lines *cards, size_t cards_length,
                               const struct hurzelma_leg *legs, size_t legs_length,
                               hurzelma_half_lines *costs, size_t costs_length,

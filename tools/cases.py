@@ -247,13 +247,30 @@ def ends(table: Table) -> None:
         ("depth", 2, 2, 0), ("depth", 0, 3, 256), ("delay", 256, 1, 0), ("delay", 1, 258, 0), ("delay", 65536, 65537, 0),
     ]:  # fmt: skip
         table.alone(ticket(kind, 3, [(start, end, cost)], [(0, 1)]))
-    for leg in (3, 3), (3, 0), (0, 3), (1, 1), (0, 0), (256, 1), (1, 256), (65536, 65537):
+    for leg in (3, 3), (3, 0), (0, 3), (1, 1), (0, 0), (2, 2), (256, 1), (1, 256), (65536, 65537):
         table.alone(ticket("delay", 3, [(0, 1, -1), (1, 0, 0)], [leg]))
     table.alone(ticket("delay", 3, [(0, 1, -1), (1, 0, 0)], []))
     table.alone(ticket("delay", 3, [(0, 1, -1), (1, 0, 0)], []) + b"(end)\n")
     table.alone(ticket("delay", 3, [(0, 1, -1), (1, 0, 0)], [(0, 2)]) + b"\n")
     table.alone(ticket("delay", 3, [], []))
     table.alone(ticket("depth", 3, [(0, 1, 16)], []))
+
+
+def equal_ends(table: Table) -> None:
+    """Legs from a format to itself, beside others that end there, by other cards and by loops that gain nothing."""
+    for kind, cost in ("delay", 7), ("depth", 9):
+        table.alone(ticket(kind, 3, [(0, 2, cost), (2, 0, cost)], [(2, 2)]))
+        table.alone(ticket(kind, 3, [(0, 1, cost), (1, 2, cost)], [(2, 2), (0, 2), (1, 1), (2, 0)]))
+        table.alone(ticket(kind, 3, [(0, 1, cost), (1, 2, cost)], [(0, 2), (1, 2), (2, 2)]))
+    for there, back in (0, 0), (-3, 3), (3, -4):
+        table.alone(ticket("delay", 3, [(0, 1, there), (1, 0, back)], [(0, 0)]))
+        table.alone(ticket("delay", 3, [(0, 1, there), (1, 0, back)], [(0, 0), (1, 0), (0, 1), (1, 1)]))
+    table.alone(ticket("delay", 8, house(), [(4, 4), (4, 2), (4, 6), (6, 6)]))
+    table.alone(ticket("delay", 3, [(0, 1, 3), (1, 0, -4)], [(2, 2)]))
+    table.base(ticket("depth", 2, [], [(1, 1)]))
+    table.whole()
+    table.sweep_in(b"(1 1)", 1)
+    table.sweep_in(b"(1 1)", 3)
 
 
 def many_legs(table: Table) -> None:
@@ -294,7 +311,7 @@ def long_chains(table: Table) -> None:
     for kind, cost in ("delay", 1000000), ("delay", -1000000), ("depth", 16):
         table.alone(ticket(kind, 64, [(a, b, cost) for a, b in steps], legs))
     up = [(k, k + 1, -1) for k in range(63)]
-    table.alone(ticket("delay", 64, [*up, (63, 0, 63)], [(0, 63), (63, 62), (5, 4)]))
+    table.alone(ticket("delay", 64, [*up, (63, 0, 63)], [(0, 63), (63, 62), (5, 4), (63, 63)]))
     table.alone(ticket("delay", 64, [*reversed(up), (63, 0, 63)], [(63, 0), (1, 0)]))
     # a loop through all of 12 formats gains when its last card is a line cheaper
     ring = list(zip(shuffled(12), shuffled(12)[1:] + [0]))
@@ -406,7 +423,7 @@ def sizes(table: Table) -> None:
 def write_table(out: BinaryIO) -> Table:
     table = Table(out)
     for part in (
-        sample, first_lines, numbers, lines, codes, costs, half_lines, ends, many_legs, many_cards, long_chains, loops_and_ties, again, sizes,
+        sample, first_lines, numbers, lines, codes, costs, half_lines, ends, equal_ends, many_legs, many_cards, long_chains, loops_and_ties, again, sizes,
     ):  # fmt: skip
         part(table)
     table.end()

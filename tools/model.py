@@ -266,11 +266,11 @@ class Plan:
         for part in 0, 1:
             if ends[part] >= self.n:
                 raise Refusal(layer, 11, part, place)
-        if ends[0] == ends[1]:
-            raise Refusal(layer, 12, 1, place)
 
     def enter(self, ends: Pair, cost: Cost, place: int) -> None:
         self.judge_ends(ends, "register", place)
+        if ends[0] == ends[1]:
+            raise Refusal("register", 12, 1, place)
         if not admitted(self.kind, cost):
             raise Refusal("register", 13, 2, place)
         if ends not in self.cards and len(self.cards) == MOST_CARDS:
@@ -391,7 +391,7 @@ def least_costs(kind: str, n: int, cards: Cards, start: int) -> list[Cost | None
 def walk_cost(kind: str, cards: Cards, walk: Chain) -> Cost | None:
     """The cost of a list of formats, None where it is no walk."""
     pairs = list(zip(walk, walk[1:]))
-    if not pairs or any(pair not in cards for pair in pairs):
+    if not walk or any(pair not in cards for pair in pairs):
         return None
     return reduce(lambda cost, pair: combined(kind, cost, cards[pair]), pairs, UNIT[kind])
 
@@ -555,6 +555,8 @@ def least_chains(granted: Granted, number: int, budget: Budget) -> list[Chain | 
     (start, end), cost = granted.legs[number], granted.costs[number]
     if cost is None:
         return [None]
+    if start == end:
+        return [(start,)]
     return list(paths(followers(tight(granted, end, cost)), (start,), end, budget))
 
 

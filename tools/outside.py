@@ -162,7 +162,7 @@ def draw_cards(rng: Random, kind: str, n: int) -> list[Entry]:
 
 def draw_legs(rng: Random, n: int) -> list[Pair]:
     count = rng.choices([rng.randint(1, 6), rng.randint(7, 31), MOST_LEGS, MOST_LEGS + 1, 0], [70, 15, 10, 1, 1])[0]
-    every = list(itertools.permutations(range(n), 2))
+    every = list(itertools.product(range(n), repeat=2))
     end = rng.randrange(n)
     match rng.randrange(3):
         case 0:

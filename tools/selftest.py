@@ -125,6 +125,9 @@ class Fronts(unittest.TestCase):
 
 
 def chains_by_force(n: int, cards: Cards, ends: Pair) -> Iterator[Chain]:
+    if ends[0] == ends[1]:
+        yield (ends[0],)
+        return
     inner = [f for f in range(n) if f not in ends]
     for count in range(n - 1):
         for middle in itertools.permutations(inner, count):
@@ -163,7 +166,7 @@ def random_ticket(rng: random.Random, most_formats: int, most_legs: int) -> byte
     kind = rng.choice(["delay", "depth"])
     n = rng.randint(2, most_formats)
     cards = random_cards(rng, kind, n)
-    legs = [rng.choice(list(itertools.permutations(range(n), 2))) for _ in range(rng.randint(1, most_legs))]
+    legs = [rng.choice(list(itertools.product(range(n), repeat=2))) for _ in range(rng.randint(1, most_legs))]
     return model.ticket_text(kind, CODES[:n], [(a, b, cost) for (a, b), cost in cards.items()], legs)
 
 
@@ -183,6 +186,7 @@ class Costs(unittest.TestCase):
             total, best = (sum, min) if kind == "delay" else (min, max)
             start = rng.randrange(n)
             least = model.least_costs(kind, n, cards, start)
+            self.assertEqual(least[start], model.UNIT[kind], cards)
             for end in set(range(n)) - {start}:
                 costs = [total(costs_of(cards, chain)) for chain in chains_by_force(n, cards, (start, end))]
                 self.assertEqual(least[end], best(costs) if costs else None, cards)
@@ -250,7 +254,7 @@ class Judging(unittest.TestCase):
             (b"delay 3", b"delay 3.5", ("ticket", 2, 0, 12)),
             (b"(0 2) 6", b"(1 0) -5", ("bay", 26, 0, 133)),
             (b"(leg (0 1))", b"(leg (0 3))", ("bay", 11, 1, 108)),
-            (b"(leg (0 1))", b"(leg (1 1))", ("bay", 12, 1, 108)),
+            (b"(leg (0 1))", b"(leg (3 3))", ("bay", 11, 0, 108)),
             (b"(leg (1 0))", b"(card (1 0) 1)", ("ticket", 2, 0, 121)),
             (b"(leg (0 1))\n(leg (1 0))\n", b"", ("bay", 25, 0, 108)),
             (b"(end)\n", b"(end)\n\n", ("ticket", 2, 0, 138)),
@@ -313,7 +317,7 @@ def agree_by_force(chains: list[Chain | None]) -> bool:
 
 
 def answers_by_force(granted: Granted) -> set[bytes]:
-    total = sum if granted.kind == "delay" else min
+    total = sum if granted.kind == "delay" else lambda costs: min(costs, default=255)
     options: list[list[Chain | None]] = []
     for ends, cost in zip(granted.legs, granted.costs):
         chains = chains_by_force(granted.n, granted.cards, ends)
@@ -426,6 +430,15 @@ class Answers(unittest.TestCase):
         for codes, fine in (b"UYVY v210", True), (b"UYVY NV12", False), (b"YUY2 v210", False), (b"UYVY", False):
             output = b"(leg 0 (0 1) 1 (" + codes + b"))\n(end)\n"
             self.assertEqual(model.check_answer(ticket, output) is None, fine, codes)
+
+    def test_equal_ends(self) -> None:
+        """The chain is the format alone, at the unit, also where a loop of that cost begins there."""
+        for kind, there, back, unit in ("delay", 1, -1, 0), ("depth", 16, 16, 255):
+            ticket = model.ticket_text(kind, CODES[:3], [(0, 1, there), (1, 0, back)], [(0, 0)])
+            right = b"(leg 0 (0 0) %d (UYVY))\n(end)\n" % unit
+            self.assertEqual(model.answers(ticket), [right])
+            for wrong in b"%d (UYVY UYVY)" % unit, b"%d (UYVY v210 UYVY)" % unit, b"%d (v210)" % unit, b"16 (UYVY)", b"none":
+                self.assertIsNotNone(model.check_answer(ticket, b"(leg 0 (0 0) " + wrong + b")\n(end)\n"), wrong)
 
     def test_too_many(self) -> None:
         cards = [(a, b, 0) for a, b in itertools.permutations(range(6), 2)]

@@ -165,6 +165,9 @@ def gaining_loop_by_force(n, cards):
 
 def chains_by_force(n, cards, start, end):
     """Every chain from start to end, as (cards' costs, formats)."""
+    if start == end:
+        yield [], (start,)
+        return
     others = [f for f in range(n) if f not in (start, end)]
     for count in range(n - 1):
         for inner in itertools.permutations(others, count):
@@ -199,6 +202,8 @@ def reached(cards, start, bits):
 def least(kind, n, cards, start, end):
     if kind == "delay":
         return least_delays(n, cards, start).get(end)
+    if start == end:
+        return 255
     for bits in range(16, 0, -1):
         if end in reached(cards, start, bits):
             return bits
@@ -207,7 +212,7 @@ def least(kind, n, cards, start, end):
 
 def best_by_force(kind, n, cards, start, end):
     """The best cost, and the chains that have it."""
-    combined, better = (sum, min) if kind == "delay" else (min, max)
+    combined, better = (sum, min) if kind == "delay" else (lambda costs: min(costs, default=255), max)
     found = [(combined(costs), chain) for costs, chain in chains_by_force(n, cards, start, end)]
     if not found:
         return None, []
@@ -266,8 +271,7 @@ def trial(kind, number, dice):
     legs = []
     for _ in range(1 + dice.below(5)):
         a = dice.below(n)
-        b = dice.below(n - 1)
-        legs.append((a, b if b < a else b + 1))
+        legs.append((a, dice.below(n)))
     text = route(kind, n, cards, legs)
     both(f"{kind} {number}", text)
     print(f"{kind} {number}, from the outputs:{text}")
@@ -299,6 +303,9 @@ def fixed_cases():
     show("a tie with a loop of delays", "delay", 4, {(0, 2): 1, (0, 3): 1, (2, 1): 1, (3, 0): -1}, [(0, 1)])
     show("a tie with a loop of depths", "depth", 4, {(1, 2): 2, (1, 3): 1, (2, 0): 1, (3, 1): 2}, [(1, 0)])
     show("a loop of no delay", "delay", 3, {(0, 1): 0, (1, 0): 0, (0, 2): 5}, [(0, 2), (1, 2)])
+    show("legs with equal ends at a loop of no delay", "delay", 3, {(0, 1): 0, (1, 0): 0, (0, 2): 5}, [(0, 0), (1, 0), (2, 2)])
+    show("a leg with equal ends beside another", "depth", 3, {(0, 1): 10, (1, 2): 8}, [(2, 2), (0, 2)])
+    show("a loop away from a leg with equal ends", "delay", 4, {(2, 3): -1, (3, 2): 0}, [(0, 0)])
     show("a loop away from the leg", "delay", 4, {(0, 1): 1, (2, 3): -1, (3, 2): 0}, [(0, 1)])
     show("a loop of three that gains", "delay", 3, {(0, 1): 2, (1, 2): -4, (2, 0): 1}, [(0, 2)])
     show("a loop of three that does not", "delay", 3, {(0, 1): 2, (1, 2): -4, (2, 0): 2}, [(0, 2), (1, 0), (2, 1)])
@@ -315,7 +322,8 @@ def fixed_cases():
     print("no legs: bay 25.0")
     print("book 3 0: bay 11.0")
     print("book 0 3: bay 11.1")
-    print("book 1 1: bay 12.1")
+    print("book 3 3: bay 11.0")
+    print("book 1 1: 0")
     print("leg 33: bay 24.0")
     print("short table: bay 15.0")
     print("short costs: bay 15.1")

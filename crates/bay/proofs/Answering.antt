@@ -16,7 +16,7 @@ use Rattle.bay.specs.declared.calls.Answer.TheVariants.{Refused}
 use Rattle.bay.specs.declared.calls.Call.{Call}
 use Rattle.bay.specs.declared.calls.Call.TheVariants.{Enter, Withdraw, Book, Strike, Show, Route}
 use Rattle.bay.specs.declared.fault.BayFault.{BayFault}
-use Rattle.bay.specs.declared.fault.BayFault.TheVariants.{Register, FromOutside, ToOutside, SameEnds, NoLeg, TableShort, CostsShort, ChainsShort, AnswersShort, LegsFull, NoLegs, Loop}
+use Rattle.bay.specs.declared.fault.BayFault.TheVariants.{Register, FromOutside, ToOutside, NoLeg, TableShort, CostsShort, ChainsShort, AnswersShort, LegsFull, NoLegs, Loop}
 use Rattle.bay.specs.declared.legs.Leg.{Leg}
 use Rattle.bay.proofs.Granted.{none≢some}
 
@@ -39,7 +39,6 @@ of_refused : (f : BayFault) → ((bay_code f).number ≡ 26 → ⊥) → of_rout
 of_refused (Register f) n = refl
 of_refused FromOutside n = refl
 of_refused ToOutside n = refl
-of_refused SameEnds n = refl
 of_refused NoLeg n = refl
 of_refused TableShort n = refl
 of_refused CostsShort n = refl

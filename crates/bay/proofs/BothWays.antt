@@ -7,8 +7,8 @@ use Rattle.costs.specs.Algebra.{Algebra, Lawful}
 use Rattle.registers.specs.Meaning.{standing}
 use Rattle.registers.proofs.Views.{open_standing}
 use Rattle.bay.specs.Sheet.{row_of}
-use Rattle.walks.specs.Walk.{path, Walk, cost, Gains}
-use Rattle.walks.proofs.Backwards.{walk_back, gains_back}
+use Rattle.walks.specs.Walk.{FromTo, Walk, cost, WalkCosts, Gains}
+use Rattle.walks.proofs.Backwards.{walk_costs_back, gains_back}
 use Rattle.walks.proofs.Least.{at_most_both}
 use Rattle.bay.specs.Faults.{refused}
 use Rattle.bay.specs.Routes.{LoopIn, HasNoChain, HasLeastChain}
@@ -29,24 +29,25 @@ module _ {A : Algebra} (L : Lawful A) where
     abbrev Found : (ℕ → ℕ → Option A.Value) → Ends → List ℕ → A.Value → Type 0
     Found card leg row x = HasNoChain A card leg row x ⊎ HasLeastChain A card leg row x
 
-    there : (ms : List ℕ) → Walk A card (path leg.from ms leg.to) → (ns : List ℕ) × Walk A back (path other.from ns other.to) × (cost A back (path other.from ns other.to) ≡ cost A card (path leg.from ms leg.to))
-    there ms w = rw (opposite.0, opposite.1) (walk_back L card back turned leg.from ms leg.to w)
+    there : (fs : List ℕ) → FromTo leg.from leg.to fs → Walk A card fs → WalkCosts A back other.from other.to (cost A card fs)
+    there fs ends w = rw (opposite.0, opposite.1) (walk_costs_back L card back turned leg.from leg.to (cost A card fs) (fs, ends, w, refl))
 
-    again : (ns : List ℕ) → Walk A back (path other.from ns other.to) → (ms : List ℕ) × Walk A card (path leg.from ms leg.to) × (cost A card (path leg.from ms leg.to) ≡ cost A back (path other.from ns other.to))
-    again ns w = rw (sym opposite.0, sym opposite.1) (walk_back L back card (λ a b. sym (turned b a)) other.from ns other.to w)
+    again : (fs : List ℕ) → FromTo other.from other.to fs → Walk A back fs → WalkCosts A card leg.from leg.to (cost A back fs)
+    again fs ends w = rw (sym opposite.0, sym opposite.1) (walk_costs_back L back card (λ a b. sym (turned b a)) other.from other.to (cost A back fs) (fs, ends, w, refl))
 
-    no_chain : (fs : List ℕ) (a b : ℕ) → row_of (path a fs b) ≡ row_of [] → ⊥
-    no_chain fs a b e = let n : suc (length (fs ++ b ∷ [])) ≡ 0 = ap (λ r. get_or r 0 0) e in absurd (omega (arith, n))
+    walk_some : (f : ℕ → ℕ → Option A.Value) (fs : List ℕ) → Walk A f fs → row_of fs ≡ row_of [] → ⊥
+    walk_some f [] w e = w
+    walk_some f (a ∷ fs) w e = let n : suc (length fs) ≡ 0 = ap (λ r. get_or r 0 0) e in absurd (omega (arith, n))
 
     leg_alike : Found card leg row x → Found back other row' y → Alike (row ≡ row_of []) (row' ≡ row_of []) × (x ≡ y)
     leg_alike (inl p) (inl q) = ((λ _. q.row_is, λ _. p.row_is), p.costs ∙ sym q.costs)
-    leg_alike (inl p) (inr q) = let (ms, w, e) = again q.inner q.chain.0 in absurd (p.no_walk ms w)
-    leg_alike (inr p) (inl q) = let (ns, w, e) = there p.inner p.chain.0 in absurd (q.no_walk ns w)
+    leg_alike (inl p) (inr q) = let (fs, ends, w, e) = again q.formats q.from_to q.chain.0 in absurd (p.no_walk fs ends w)
+    leg_alike (inr p) (inl q) = let (fs, ends, w, e) = there p.formats p.from_to p.chain.0 in absurd (q.no_walk fs ends w)
     leg_alike (inr p) (inr q) = (
-      (λ e. absurd (no_chain p.inner leg.from leg.to (sym p.row_is ∙ e)), λ e. absurd (no_chain q.inner other.from other.to (sym q.row_is ∙ e))),
+      (λ e. absurd (walk_some card p.formats p.chain.0 (sym p.row_is ∙ e)), λ e. absurd (walk_some back q.formats q.chain.0 (sym q.row_is ∙ e))),
       at_most_both L x y
-          (λ u. let (ms, w, e) = again q.inner q.chain.0 in p.least ms w (rw (e, sym q.costs) u))
-          (λ u. let (ns, w, e) = there p.inner p.chain.0 in q.least ns w (rw (e, sym p.costs) u)),
+          (λ u. let (fs, ends, w, e) = again q.formats q.from_to q.chain.0 in p.least fs ends w (rw (e, sym q.costs) u))
+          (λ u. let (fs, ends, w, e) = there p.formats p.from_to p.chain.0 in q.least fs ends w (rw (e, sym p.costs) u)),
     )
 
 module _ {C : Type 0} (K : Kind C) (L : Lawful K.algebra) where

@@ -4,7 +4,7 @@ use Rattle.std.proofs.Common.{◌≡◌, ℕ, zero, suc, ◌<◌, Bool, true, fa
 use Rattle.std.proofs.lemmas.List.{get_or-set_same, get_or-set_other}
 use Rattle.std.proofs.lemmas.Bool.{cases_eq, cases_Bool, both_ways}
 use Rattle.costs.specs.Algebra.{Algebra, Lawful}
-use Rattle.walks.specs.Walk.{path, Absent, Distinct, LeastOf, Walk, cost, Chain, WalkCosts, Least, Gains, Tight}
+use Rattle.walks.specs.Walk.{FromTo, Absent, Distinct, LeastOf, Walk, cost, WalkCosts, Least, Gains, Tight}
 use Rattle.walks.specs.Theorems.{Sound}
 use Rattle.bay.specs.Tracing.{Follows, Ticked, Led, Grown}
 use Rattle.walks.proofs.Tree.{tree_reaches}
@@ -38,13 +38,15 @@ module _ (next : List ℕ) (t : ℕ) where
       let e = follows_same m (m ∷ bs) (m ∷ ds) (follows_from v ps m bs (rw p at h)) (follows_from w cs m ds (rw q at k)) in
       cc
 
-  follows_path : (v : ℕ) (fs : List ℕ) → (v ≡ t → ⊥) → Follows next t v fs → (ms : List ℕ) × (fs ≡ path v ms t)
-  follows_path v [] ne h = absurd h
-  follows_path v (f ∷ []) ne h = absurd (ne h.1)
-  follows_path v (f ∷ g ∷ []) ne h = ([], ap₂ (λ x y. x ∷ y ∷ []) h.0 (h.2.0 ∙ h.2.1))
-  follows_path v (f ∷ g ∷ k ∷ fs) ne h =
-      let (ms, e) = follows_path (get_or next v 0) (g ∷ k ∷ fs) h.2.1 h.2 in
-      (get_or next v 0 ∷ ms, ap (λ x. x ∷ g ∷ k ∷ fs) h.0 ∙ ap (λ xs. v ∷ xs) e)
+  follows_last : (v : ℕ) (fs : List ℕ) → Follows next t v fs → (front : List ℕ) × (fs ≡ front ++ t ∷ [])
+  follows_last v [] h = absurd h
+  follows_last v (f ∷ []) h = ([], ap (λ x. x ∷ []) (h.0 ∙ h.1))
+  follows_last v (f ∷ g ∷ fs) h = let (front, e) = follows_last (get_or next v 0) (g ∷ fs) h.2 in (f ∷ front, ap (λ xs. f ∷ xs) e)
+
+  -- a list begins where it is followed from, and ends with t
+  pub follows_ends : (v : ℕ) (fs : List ℕ) → Follows next t v fs → FromTo v t fs
+  follows_ends v [] h = absurd h
+  follows_ends v (f ∷ fs) h = ((fs, ap (λ x. x ∷ fs) (follows_head v f fs h)), follows_last v (f ∷ fs) h)
 
 pub none_ticked : (n v : ℕ) → get_or (replicate n false) v false ≡ false
 none_ticked zero v = refl
@@ -82,19 +84,15 @@ module _ (A : Algebra) (card : ℕ → ℕ → Option A.Value) (d : ℕ → Opti
   grown_start at_t free v k = go (cases_eq v t)
     where
       go : (v ≡ t) ⊎ (v ≡ t → ⊥) → Led A card d t (set ticked t true) next v
-      go (inl e) = record { formats = v ∷ []; follows = (refl, e); distinct = (tt, tt); inside = (k, tt); walks = λ ne. absurd (ne e); costs = ap d e ∙ at_t }
+      go (inl e) = record { formats = v ∷ []; follows = (refl, e); distinct = (tt, tt); inside = (k, tt); walks = tt; costs = ap d e ∙ at_t }
       go (inr ne) = absurd (both_ways _ (get_or-set_other ticked t v true false ne ∙ free v) k)
-
-  walk_more : (v w g : ℕ) (gs : List ℕ) → is_some (card v g) ≡ true → Follows next t w (g ∷ gs) → ((w ≡ t → ⊥) → Walk A card (g ∷ gs)) → Walk A card (v ∷ g ∷ gs)
-  walk_more v w g [] s h k = s
-  walk_more v w g (g' ∷ gs) s h k = (s, k h.1)
 
   -- with v in front of what leads from w
   led_more : (v w : ℕ) → get_or ticked v false ≡ false → v < length ticked → v < length next → Tight A card d v w →
       Led A card d t ticked next w → Led A card d t (set ticked v true) (set next v w) v
   led_more v w free l m (c, x, p, q, r) k = go k.formats k.follows k.distinct k.inside k.walks k.costs
     where
-      go : (fs : List ℕ) → Follows next t w fs → Distinct fs → Ticked ticked fs → ((w ≡ t → ⊥) → Walk A card fs) → d w ≡ Some (cost A card fs) →
+      go : (fs : List ℕ) → Follows next t w fs → Distinct fs → Ticked ticked fs → Walk A card fs → d w ≡ Some (cost A card fs) →
           Led A card d t (set ticked v true) (set next v w) v
       go [] h s i f e = absurd h
       go (g ∷ gs) h s i f e =
@@ -109,7 +107,7 @@ module _ (A : Algebra) (card : ℕ → ℕ → Option A.Value) (d : ℕ → Opti
             );
             distinct = (absent_free ticked v free (g ∷ gs) i, s);
             inside = (get_or-set_same ticked v true false l, ticked_kept ticked v free (g ∷ gs) i);
-            walks = λ _. walk_more v w g gs (ap is_some o) h f;
+            walks = (ap is_some o, f);
             costs = r ∙ ap₂ (λ y z. Some (A.join (unwrap_or y A.unit) z)) (sym o) u;
           }
 
@@ -130,14 +128,10 @@ module _ (A : Algebra) (card : ℕ → ℕ → Option A.Value) (d : ℕ → Opti
             costs = o.costs;
           }
 
-  -- what leads from a format other than t is a chain to t
-  pub led_chain : (v : ℕ) (k : Led A card d t ticked next v) → (v ≡ t → ⊥) → (ms : List ℕ) × (k.formats ≡ path v ms t) × Chain A card (path v ms t)
-  led_chain v k ne = let (ms, e) = follows_path next t v k.formats ne k.follows in (ms, e, (rw e at (k.walks ne), rw e at k.distinct))
-
 -- A set of formats without t that has each format with a tight card from the set: no walk leads from it to t. What is left
 -- out of it is a tree that has t, and each format with a tight card into it.
 module _ {A : Algebra} (L : Lawful A) (n : ℕ) (card : ℕ → ℕ → Option A.Value) (sound : Sound A n card) (gainless : Gains A card → ⊥)
-    (t : ℕ) (d : ℕ → Option A.Value) (at_t : d t ≡ Some A.unit) (least : (v : ℕ) → (v ≡ t → ⊥) → Least A card v t (d v))
+    (t : ℕ) (d : ℕ → Option A.Value) (least : (v : ℕ) → Least A card v t (d v))
     (marks : List Bool) (without : get_or marks t false ≡ false)
     (closed : (v w : ℕ) → w < n → get_or marks v false ≡ true → Tight A card d v w → get_or marks w false ≡ true) where
   left_out : (v w : ℕ) → not (get_or marks w false) ≡ true → Tight A card d v w → (get_or marks v false ≡ true) ⊎ (get_or marks v false ≡ false) → not (get_or marks v false) ≡ true
@@ -146,7 +140,7 @@ module _ {A : Algebra} (L : Lawful A) (n : ℕ) (card : ℕ → ℕ → Option A
 
   pub closed_never : (v : ℕ) → get_or marks v false ≡ true → (x : A.Value) → d v ≡ Some x → ⊥
   closed_never v i x e =
-      let h : LeastOf A (WalkCosts A card v t) (Some x) = rw e at (least v (λ e. both_ways (get_or marks t false) without (rw e at i))) in
-      let o = tree_reaches L n card sound gainless t d at_t least (λ v. not (get_or marks v false)) (rw without refl)
+      let h : LeastOf A (WalkCosts A card v t) (Some x) = rw e at (least v) in
+      let o = tree_reaches L n card sound gainless t d least (λ v. not (get_or marks v false)) (rw without refl)
       (λ v w o tight. left_out v w o tight (cases_Bool (get_or marks v false))) v x h.0 in
       both_ways _ (rw i refl) o

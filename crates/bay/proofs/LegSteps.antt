@@ -9,7 +9,7 @@ use Rattle.bay.proofs.Searches.{still_ticked}
 use Rattle.bay.specs.declared.legs.Note.TheVariants.{Open}
 use Rattle.bay.specs.declared.legs.Leg.{Leg}
 use Rattle.bay.specs.declared.legs.Legs.{Legs}
-use Rattle.bay.specs.Leg.{Apart, no_leg, noted}
+use Rattle.bay.specs.Leg.{no_leg, noted}
 use Rattle.bay.specs.Leg.{opened}
 use Rattle.bay.specs.Legs.{booked, struck}
 
@@ -40,18 +40,10 @@ length_opened n legs fits =
     let rest = length-drop n legs in
     length-append (opened (take n legs)) (drop n legs) ∙ omega arith
 
--- the first n legs are opened: their ends are as they were
-pub apart_opened : (n : ℕ) (legs : List Leg) → n ≤ length legs → Apart n legs → Apart n (opened (take n legs) ++ drop n legs)
-apart_opened n legs fits apart k lt =
-    let many : length (opened (take n legs)) ≡ n = length-map (take n legs) (noted Open) ∙ length-take-le n legs fits in
-    let is : get_or (opened (take n legs) ++ drop n legs) k no_leg ≡ noted Open (get_or legs k no_leg) =
-    get_or_append_left (opened (take n legs)) (drop n legs) no_leg k (omega arith) ∙ get_or-map (noted Open) (take n legs) k no_leg no_leg (omega (arith, length-take-le n legs fits)) ∙ ap (noted Open) (get_or-take n legs k no_leg lt) in
-    subst (λ l. l.from ≡ l.to → ⊥) (sym is) (apart k lt)
-
 -- of the first n legs, each that ends in the goal has a tick where it begins
 abbrev pub Started : List Leg → ℕ → ℕ → List Bool → Type 0
 Started legs goal n starts = (length starts ≡ most_formats) ×
-    ((k : ℕ) → k < n → (get_or legs k no_leg).to ≡ goal → (get_or legs k no_leg).from < most_formats → get_or starts (get_or legs k no_leg).from false ≡ true)
+    ((k : ℕ) → k < n → (get_or legs k no_leg).to ≡ goal → get_or starts (get_or legs k no_leg).from false ≡ true)
 
 pub started_more : (legs : List Leg) (goal n : ℕ) (starts : List Bool) → Started legs goal n starts → (leg : Leg) → leg ≡ get_or legs n no_leg → leg.from < most_formats →
     (starts' : List Bool) → starts' ≡ set starts leg.from true → Started legs goal (n + 1) starts'
@@ -59,16 +51,16 @@ started_more legs goal n starts (long, seen) leg is few starts' e =
     let inside : leg.from < length starts = omega (arith, long) in
     rw e (
       length-set starts leg.from true ∙ long,
-      below_more (λ k. (get_or legs k no_leg).to ≡ goal → (get_or legs k no_leg).from < most_formats → get_or (set starts leg.from true) (get_or legs k no_leg).from false ≡ true) n
-          (λ k l to from. still_ticked starts leg.from (get_or legs k no_leg).from inside (seen k l to from))
-          (λ to from. subst (λ x. get_or (set starts leg.from true) x.from false ≡ true) is (get_or-set_same starts leg.from true false inside)),
+      below_more (λ k. (get_or legs k no_leg).to ≡ goal → get_or (set starts leg.from true) (get_or legs k no_leg).from false ≡ true) n
+          (λ k l to. still_ticked starts leg.from (get_or legs k no_leg).from inside (seen k l to))
+          (λ to. subst (λ x. get_or (set starts leg.from true) x.from false ≡ true) is (get_or-set_same starts leg.from true false inside)),
     )
 
 pub started_passes : (legs : List Leg) (goal n : ℕ) (starts : List Bool) → Started legs goal n starts →
-    ((get_or legs n no_leg).to ≡ goal → (get_or legs n no_leg).from < most_formats → ⊥) → (starts' : List Bool) → starts' ≡ starts → Started legs goal (n + 1) starts'
+    ((get_or legs n no_leg).to ≡ goal → ⊥) → (starts' : List Bool) → starts' ≡ starts → Started legs goal (n + 1) starts'
 started_passes legs goal n starts (long, seen) none starts' e =
     rw e (
       long,
-      below_more (λ k. (get_or legs k no_leg).to ≡ goal → (get_or legs k no_leg).from < most_formats → get_or starts (get_or legs k no_leg).from false ≡ true) n seen
-          (λ to from. absurd (none to from)),
+      below_more (λ k. (get_or legs k no_leg).to ≡ goal → get_or starts (get_or legs k no_leg).from false ≡ true) n seen
+          (λ to. absurd (none to)),
     )

@@ -94,11 +94,11 @@ module _ {C : Type 0} (K : Kind C) (L : Lawful K.algebra) (n : ℕ) (card : ℕ 
       let e : min (min s t) h ≡ min s t = omega arith in
       subst (λ j. LowLeast K.algebra card j s t (least_in K n cells s t)) e (to s t ls lt ne)
 
-  near_least : (s t : ℕ) (o : Option K.algebra.Value) → (s ≡ t → ⊥) → NoLoopBelow K.algebra card n → Least K.algebra card s t o → Near K.algebra n o
-  near_least s t o ne calm least x e =
+  near_least : (s t : ℕ) (o : Option K.algebra.Value) → NoLoopBelow K.algebra card n → Least K.algebra card s t o → Near K.algebra n o
+  near_least s t o calm least x e =
       let few = sound.small in
       L.within_more (n - 1) (suc n) x (omega arith) (omega arith)
-      (least_is_near L n card sound (no_hidden_loop L n card sound calm) s t ne x (subst (Least K.algebra card s t) e least))
+      (least_is_near L n card sound (no_hidden_loop L n card sound calm) s t x (subst (Least K.algebra card s t) e least))
 
   -- a cell at the level of its lower format
   first_at : (cells : List (Cell C)) → FirstDone K n card cells → (h s t : ℕ) → s < n → t < n → (s ≡ t → ⊥) → min s t ≡ h → LowLeast K.algebra card h s t (least_in K n cells s t)
@@ -147,7 +147,7 @@ module _ {C : Type 0} (K : Kind C) (L : Lawful K.algebra) (n : ℕ) (card : ℕ 
     inside = (lv, omega arith, omega arith);
     near = λ j l m ne. (
       near_low v v j _ (omega arith) (λ k u. calm k (omega arith)) (first_at cells done v v j lv m (λ e. absurd (omega arith)) (omega arith)),
-      near_least j goal _ ne calm (to j l m ne),
+      near_least j goal _ calm (to j l m ne),
     );
   }
 

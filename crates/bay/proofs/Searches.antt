@@ -15,7 +15,7 @@ use Rattle.bay.specs.Tracing.{Clear, Ticked, Rises, SearchState, Lined, Wider, t
 use Rattle.bay.specs.declared.cells.Cell.{Cell}
 use Rattle.walks.proofs.Fold.{below_join}
 use Rattle.walks.proofs.Cut.{distinct_few, distinct_end}
-use Rattle.bay.proofs.Follow.{absent_free, ticked_kept, none_ticked, grown_start, grown_more, led_chain, closed_never, follows_same}
+use Rattle.bay.proofs.Follow.{absent_free, ticked_kept, none_ticked, grown_start, grown_more, closed_never, follows_same}
 use Rattle.bay.proofs.Tights.{to_goal_goal, to_goal_inside, to_goal_least}
 
 ticked_push : (ticked : List Bool) (fs : List ℕ) (v : ℕ) → Ticked ticked fs → get_or ticked v false ≡ true → Ticked ticked (fs ++ v ∷ [])
@@ -290,7 +290,7 @@ module _ {C : Type 0} (K : Kind C) (L : Lawful K.algebra) (n : ℕ) (cells : Lis
 
     exhausted : Exhausted K n cells goal r → (v : ℕ) → get_or r.marks v false ≡ true → (x : K.algebra.Value) → to_goal K n cells goal v ≡ Some x → ⊥
     exhausted done = closed_never L n (cards_in K n cells) ready.laid.sound ready.calm goal (to_goal K n cells goal)
-        (to_goal_goal K L n cells goal) (to_goal_least K L n cells goal ready) r.marks goal_free
+        (to_goal_least K L n cells goal ready) r.marks goal_free
         (λ v w m i tight. let (k, b, e) = s.lined.all v i in done k b w m (rw e tight))
 
   pub exhausted_never : ∥ GoalReady K n cells goal ∥₁ → (ticked : List Bool) (r : SearchState) → Seeks ticked r → get_or ticked goal false ≡ true →
@@ -301,20 +301,16 @@ module _ {C : Type 0} (K : Kind C) (L : Lawful K.algebra) (n : ℕ) (cells : Lis
   served_on ticked later v rises (inl i) = inl (rises v i)
   served_on ticked later v rises (inr f) = inr f
 
-  pub served_traced : (ready : GoalReady K n cells goal) (ticked : List Bool) (next : List ℕ) → LeadsToGoal K n cells goal ticked next → (v : ℕ) → v < n → (v ≡ goal → ⊥) →
+  pub served_traced : (ready : GoalReady K n cells goal) (ticked : List Bool) (next : List ℕ) → LeadsToGoal K n cells goal ticked next → (v : ℕ) →
       Covered K n cells goal ticked v → Traced K n cells goal next v
-  served_traced ready ticked next t v l ne (inl i) =
-      let led = t.grown v i in
-      let (ms, e, chain) = led_chain K.algebra (cards_in K n cells) (to_goal K n cells goal) goal ticked next v led ne in
-      let d : least_in K n cells v v ≡ Some (cost K.algebra (cards_in K n cells) (path v ms goal)) = sym (to_goal_inside K L n cells goal v l ne) ∙ rw e at led.costs in
-      rw d (ms, chain, refl, rw e at led.follows)
-  served_traced ready ticked next t v l ne (inr f) = go (least_in K n cells v v) refl
+  served_traced ready ticked next t v (inl i) = let led = t.grown v i in rw led.costs (led.formats, (led.walks, led.distinct), refl, led.follows)
+  served_traced ready ticked next t v (inr f) = go (to_goal K n cells goal v) refl
     where
-      go : (o : Option K.algebra.Value) → least_in K n cells v v ≡ o → Traced K n cells goal next v
-      go None e = rw e (rw e at (ready.least v l ne))
-      go (Some x) e = absurd (f x (to_goal_inside K L n cells goal v l ne ∙ e))
+      go : (o : Option K.algebra.Value) → to_goal K n cells goal v ≡ o → Traced K n cells goal next v
+      go None e = rw e (rw e at (to_goal_least K L n cells goal ready v))
+      go (Some x) e = absurd (f x e)
 
-  pub served_ticked : (ticked : List Bool) (next : List ℕ) → LeadsToGoal K n cells goal ticked next → (v : ℕ) → v < n → (v ≡ goal → ⊥) →
+  pub served_ticked : (ticked : List Bool) (next : List ℕ) → LeadsToGoal K n cells goal ticked next → (v : ℕ) →
       Covered K n cells goal ticked v → TickedFrom K n cells goal ticked next v
-  served_ticked ticked next t v l ne (inl i) x e fs h = let led = t.grown v i in subst (Ticked ticked) (follows_same next goal v led.formats fs led.follows h) led.inside
-  served_ticked ticked next t v l ne (inr f) x e fs h = absurd (f x (to_goal_inside K L n cells goal v l ne ∙ e))
+  served_ticked ticked next t v (inl i) x e fs h = let led = t.grown v i in subst (Ticked ticked) (follows_same next goal v led.formats fs led.follows h) led.inside
+  served_ticked ticked next t v (inr f) x e fs h = absurd (f x e)

@@ -4,15 +4,15 @@ use borrow.Rule.Slice.PartMut.{put_mid, Post-is}
 use Rattle.std.proofs.lemmas.List.{append_assoc, length-append, length-drop, length-replicate, length-take, length-take-le, drop_more, take_more, set_at, take_at, drop_at, get_or_append_left, get_or-append_right, get_or-take, get_or-drop, ext_get_or}
 use Rattle.std.proofs.lemmas.Bool.{cases_lt}
 use Rattle.costs.specs.Algebra.{Algebra, Lawful}
-use Rattle.walks.specs.Walk.{path, Below, Chain}
+use Rattle.walks.specs.Walk.{path, FromTo, Below, Walk, Chain}
 use Rattle.walks.specs.Theorems.{Sound}
 use Rattle.registers.specs.Meaning.{most_formats}
 use Rattle.bay.specs.Tracing.{Follows}
 use Rattle.bay.specs.Sheet.{most_in_row, row_of, row_at, put_row, row_bytes}
 use Rattle.bay.specs.Tracing.{Leads, LeadsIn}
-use Rattle.bay.proofs.Follow.{follows_head, follows_same}
+use Rattle.bay.proofs.Follow.{follows_ends, follows_head, follows_same}
 use Rattle.bay.proofs.Searches.{below_at}
-use Rattle.walks.proofs.Runs.{to_runs}
+use Rattle.walks.proofs.Runs.{one_or_path, to_runs}
 use Rattle.walks.proofs.Fold.{below_join, below_mono}
 use Rattle.walks.proofs.Loops.{runs_inside}
 use Rattle.walks.proofs.Cut.{distinct_few}
@@ -28,7 +28,7 @@ pub record Reading (next : List ℕ) (goal from : ℕ) (old : List ℕ) (here i 
   pub written : places ≡ take i formats ++ drop i old
 
 module _ (next : List ℕ) (goal : ℕ) where
-  follows_some : (v : ℕ) (fs : List ℕ) → Follows next goal v fs → 0 < length fs
+  pub follows_some : (v : ℕ) (fs : List ℕ) → Follows next goal v fs → 0 < length fs
   follows_some v [] h = absurd h
   follows_some v (f ∷ fs) h = omega arith
 
@@ -147,16 +147,25 @@ module _ (sheet : List ℕ) (k : ℕ) (row : List ℕ) (room : row_bytes * k + r
 pub chain_of_row : (fs : List ℕ) → take (length fs) (drop 1 (row_of fs)) ≡ fs
 chain_of_row fs = take_at fs (replicate (most_in_row - length fs) 255) (length fs) refl
 
+-- the formats of a walk to a format below n are below n
+walk_below : {A : Algebra} → Lawful A → (n : ℕ) (card : ℕ → ℕ → Option A.Value) → Sound A n card → (s t : ℕ) (fs : List ℕ) → t < n → FromTo s t fs → Walk A card fs → Below n fs
+walk_below {A} L n card sound s t fs inside ends walk = go (one_or_path s t fs ends)
+  where
+    go : ((s ≡ t) × (fs ≡ s ∷ [])) ⊎ ((ms : List ℕ) × (fs ≡ path s ms t)) → Below n fs
+    go (inl (same, is)) = rw is (omega arith, tt)
+    go (inr (ms, is)) =
+        let i = runs_inside L card n sound s ms t _ (to_runs L card s ms t (rw is at walk)) in
+        rw is (i.0, below_join n ms (t ∷ []) i.1 (i.2, tt))
+
 -- a chain over the cards of a table is short
-pub chain_leads_in : {A : Algebra} → Lawful A → (n : ℕ) (card : ℕ → ℕ → Option A.Value) → Sound A n card → (most : ℕ) → n ≤ most_formats → n ≤ most → (next : List ℕ) (goal from : ℕ) (ms : List ℕ) →
-    Chain A card (path from ms goal) → Follows next goal from (path from ms goal) → LeadsIn most next goal from
-chain_leads_in L n card sound most few room next goal from ms (walk, distinct) follows =
-    let i = runs_inside L card n sound from ms goal _ (to_runs L card from ms goal walk) in
-    let below : Below n (path from ms goal) = (i.0, below_join n ms (goal ∷ []) i.1 (i.2, tt)) in
-    let short = distinct_few n (path from ms goal) below distinct in
-    (path from ms goal, follows, below_mono n most_formats (path from ms goal) few below, omega arith)
+pub chain_leads_in : {A : Algebra} → Lawful A → (n : ℕ) (card : ℕ → ℕ → Option A.Value) → Sound A n card → (most : ℕ) → n ≤ most_formats → n ≤ most → (next : List ℕ) (goal from : ℕ) (fs : List ℕ) →
+    goal < n → Chain A card fs → Follows next goal from fs → LeadsIn most next goal from
+chain_leads_in L n card sound most few room next goal from fs inside (walk, distinct) follows =
+    let below = walk_below L n card sound from goal fs inside (follows_ends next goal from fs follows) walk in
+    let short = distinct_few n fs below distinct in
+    (fs, follows, below_mono n most_formats fs few below, omega arith)
 
 -- so it can be written into a row
-pub chain_leads : {A : Algebra} → Lawful A → (n : ℕ) (card : ℕ → ℕ → Option A.Value) → Sound A n card → n ≤ most_formats → (next : List ℕ) (goal from : ℕ) (ms : List ℕ) →
-    Chain A card (path from ms goal) → Follows next goal from (path from ms goal) → Leads next goal from
+pub chain_leads : {A : Algebra} → Lawful A → (n : ℕ) (card : ℕ → ℕ → Option A.Value) → Sound A n card → n ≤ most_formats → (next : List ℕ) (goal from : ℕ) (fs : List ℕ) →
+    goal < n → Chain A card fs → Follows next goal from fs → Leads next goal from
 chain_leads L n card sound few = chain_leads_in L n card sound most_in_row few (omega arith)

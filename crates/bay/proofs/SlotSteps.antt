@@ -2,8 +2,10 @@
 -- goal by goal.
 use Rattle.std.proofs.Common.{◌≡◌, ℕ, zero, suc, ◌+◌, ◌*◌, ◌<◌, ◌≤◌, List, [], ◌∷◌, map, length, get_or, set, Option, sym, refl, ap, ◌∙◌, subst, ⊎_elim, arith, length-set}
 use lib.ListN.{length-map}
+use Rattle.std.proofs.lemmas.List.Elements.{All-same}
 use Rattle.std.proofs.lemmas.List.{get_or_default, get_or_past, get_or-set_same, get_or-set_other, map-set, set-get_or}
 use Rattle.std.proofs.lemmas.Bool.{cases_lt, cases_eq}
+use Rattle.std.specs.List.{All}
 use Rattle.costs.specs.declared.Cost.{Ghosts as Kind}
 use Rattle.costs.specs.Algebra.{Algebra}
 use Rattle.bay.specs.Sheet.{put_row, row_of, row_bytes}
@@ -12,7 +14,7 @@ use Rattle.bay.specs.Leg.{no_leg, noted}
 use Rattle.bay.specs.RouteWriters.{SameMemory, slots_of}
 use Rattle.bay.specs.declared.writing.RouteWriter.{RouteWriter}
 use Rattle.bay.specs.LegSlots.{Blank, SlotDone, EndsIn, Slots, SlotsFit, GoalServed, Spares, Written, slots, leg_slot}
-use Rattle.bay.specs.Plain.{ends}
+use Rattle.bay.specs.Plain.{EndsBelow, ends}
 use Rattle.bay.specs.Routes.{no_ends}
 use Rattle.bay.specs.declared.legs.Leg.{Leg}
 use Rattle.bay.specs.declared.legs.Note.{Note}
@@ -22,6 +24,10 @@ pub ends_at : (legs : List Leg) (k : ℕ) → ends (get_or legs k no_leg) ≡ ge
 ends_at [] k = refl
 ends_at (leg ∷ legs) zero = refl
 ends_at (leg ∷ legs) (suc k) = ends_at legs k
+
+-- each leg has the ends that all have
+pub leg_below : (n : ℕ) (legs : List Leg) → All (EndsBelow n) (map ends legs) → (k : ℕ) → k < length legs → EndsBelow n (ends (get_or legs k no_leg))
+leg_below n legs below k lt = subst (EndsBelow n) (sym (ends_at legs k)) (below k no_ends (omega (arith, length-map legs ends)))
 
 -- memory that is kept twice in a row is kept
 pub lent_then : {C : Type 0} (p q r : RouteWriter C) → SameMemory p q → SameMemory q r → SameMemory p r
@@ -96,6 +102,10 @@ module _ {C : Type 0} (p q : Slots C) (w : Written p q) where
     costs = record { long = v.costs.long ∙ w.costs.long; same = λ k d le. v.costs.same k d (omega (arith, same_number)) ∙ w.costs.same k d le };
     chains = record { long = v.chains.long ∙ w.chains.long; same = λ k d le. v.chains.same k d (omega (arith, same_number)) ∙ w.chains.same k d le };
   }
+
+-- the ends are the same, so they are formats still
+pub written_below : {C : Type 0} (n : ℕ) (p q : Slots C) → Written p q → All (EndsBelow n) (map ends p.legs) → All (EndsBelow n) (map ends q.legs)
+written_below n p q w below = All-same (EndsBelow n) (map ends q.legs) (map ends p.legs) w.ends_are below
 
 module _ {C : Type 0} (K : Kind C) where
   -- the first i legs have no chain

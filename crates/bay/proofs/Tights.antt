@@ -6,14 +6,14 @@ use Rattle.std.specs.Option.{option_map}
 use Rattle.std.proofs.lemmas.Bool.{cases_eq, cases_lt, both_ways, eq-eqb, ne_eqb, lt-ltb, le-ltb, cond-true, cond-false, and_from}
 use Rattle.costs.specs.declared.Cost.{Ghosts as Kind}
 use Rattle.costs.specs.Algebra.{Algebra, Lawful, reach}
-use Rattle.walks.specs.Walk.{Least}
+use Rattle.walks.specs.Walk.{Gains, Least}
 use Rattle.bay.specs.Cells.{cell, cards_in, least_in}
 use Rattle.bay.specs.Tracing.{to_goal, GoalReady, TightIn}
 use Rattle.bay.specs.declared.cells.Cell.{Cell}
 use Rattle.walks.proofs.Least.{equal_unless}
-use Rattle.walks.proofs.Runs.{to_runs}
+use Rattle.walks.proofs.Runs.{cost_runs}
 use Rattle.walks.proofs.Loops.{runs_inside}
-use Rattle.walks.proofs.Cut.{least_is_near}
+use Rattle.walks.proofs.Cut.{least_is_near, unit_is_least}
 
 -- two costs are equal just where neither undercuts the other
 pub same_decided : {A : Algebra} → Lawful A → (a b : A.Value) (r s : Bool) → (r ≡ false → A.Under a b → ⊥) →
@@ -40,25 +40,31 @@ module _ {C : Type 0} (K : Kind C) (L : Lawful K.algebra) (n : ℕ) (cells : Lis
   pub to_goal_outside : (v : ℕ) → n ≤ v → (v ≡ goal → ⊥) → to_goal K n cells goal v ≡ None
   to_goal_outside v l ne = cond-false (eqb v goal) _ _ (ne_eqb v goal ne) ∙ cond-false (ltb v n) _ _ (le-ltb v n l)
 
+  -- with the unit at the goal itself, all formats have their least costs to it
+  pub least_with_goal : (Gains K.algebra (cards_in K n cells) → ⊥) → ((v : ℕ) → v < n → (v ≡ goal → ⊥) → Least K.algebra (cards_in K n cells) v goal (least_in K n cells v v)) →
+      (v : ℕ) → v < n → Least K.algebra (cards_in K n cells) v goal (to_goal K n cells goal v)
+  least_with_goal calm least v l = go (cases_eq v goal)
+    where
+      go : (v ≡ goal) ⊎ (v ≡ goal → ⊥) → Least K.algebra (cards_in K n cells) v goal (to_goal K n cells goal v)
+      go (inl e) = rw e (rw to_goal_goal (unit_is_least L (cards_in K n cells) calm goal))
+      go (inr ne) = subst (λ o. Least K.algebra (cards_in K n cells) v goal o) (sym (to_goal_inside v l ne)) (least v l ne)
+
   module _ (ready : GoalReady K n cells goal) where
-    pub to_goal_least : (v : ℕ) → (v ≡ goal → ⊥) → Least K.algebra (cards_in K n cells) v goal (to_goal K n cells goal v)
-    to_goal_least v ne = go (cases_lt v n)
+    pub to_goal_least : (v : ℕ) → Least K.algebra (cards_in K n cells) v goal (to_goal K n cells goal v)
+    to_goal_least v = go (cases_lt v n)
       where
         go : (v < n) ⊎ (n ≤ v) → Least K.algebra (cards_in K n cells) v goal (to_goal K n cells goal v)
-        go (inl l) = subst (λ o. Least K.algebra (cards_in K n cells) v goal o) (sym (to_goal_inside v l ne)) (ready.least v l ne)
-        go (inr g) = subst (λ o. Least K.algebra (cards_in K n cells) v goal o) (sym (to_goal_outside v g ne))
-            (λ x w. omega (arith, (runs_inside L (cards_in K n cells) n ready.laid.sound v w.0 goal _ (to_runs L (cards_in K n cells) v w.0 goal w.1)).0))
+        go (inl l) = least_with_goal ready.calm ready.least v l
+        go (inr g) =
+            let inside = ready.inside in
+            let ne : v ≡ goal → ⊥ = λ e. omega arith in
+            subst (λ o. Least K.algebra (cards_in K n cells) v goal o) (sym (to_goal_outside v g ne))
+            (λ x w. let (ms, r) = cost_runs L (cards_in K n cells) v goal x ne w in omega (arith, (runs_inside L (cards_in K n cells) n ready.laid.sound v ms goal x r).0))
 
     pub to_goal_near : (v : ℕ) (x : K.algebra.Value) → to_goal K n cells goal v ≡ Some x → K.algebra.Within (n - 1) x
-    to_goal_near v x e = go (cases_eq v goal)
-      where
-        go : (v ≡ goal) ⊎ (v ≡ goal → ⊥) → K.algebra.Within (n - 1) x
-        go (inl d) =
-            let u : to_goal K n cells goal v ≡ Some K.algebra.unit = ap (to_goal K n cells goal) d ∙ to_goal_goal in
-            let f : K.algebra.unit ≡ x = cc in
-            subst (K.algebra.Within (n - 1)) f (L.within_more 0 (n - 1) K.algebra.unit (omega arith) (omega (arith, ready.laid.sound.small)) L.unit_within)
-        go (inr ne) = least_is_near L n (cards_in K n cells) ready.laid.sound ready.calm v goal ne x
-            (subst (λ o. Least K.algebra (cards_in K n cells) v goal o) e (to_goal_least v ne))
+    to_goal_near v x e =
+        least_is_near L n (cards_in K n cells) ready.laid.sound ready.calm v goal x
+        (subst (λ o. Least K.algebra (cards_in K n cells) v goal o) e (to_goal_least v))
 
   -- the test of a card by the meaning of its combination with the rest of the way
   pub tight_decided : ∥ GoalReady K n cells goal ∥₁ → (v w : ℕ) (c x z j : K.algebra.Value) (r : Bool) → cards_in K n cells v w ≡ Some c → Some x ≡ to_goal K n cells goal w →

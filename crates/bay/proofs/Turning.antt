@@ -1,23 +1,25 @@
 -- The loop at a format h that a look found: a card leads out of h, and a chain of the least cost up to h leads back.
 -- The costs back are near, one of them undercuts the unit together with its card, and the chain makes a loop.
-use Rattle.std.proofs.Common.{◌≡◌, ℕ, suc, ◌-◌, ◌<◌, ◌≤◌, true, List, [], ◌∷◌, IfSome, Some, None, Option, sym, refl, subst, arith, MatchOption}
+use Rattle.std.proofs.Common.{◌≡◌, ℕ, suc, ◌-◌, ◌<◌, ◌≤◌, true, List, [], ◌∷◌, IfSome, Some, None, Option, sym, refl, ap, ◌∙◌, subst, arith, MatchOption}
 use Rattle.std.specs.Option.{option_map}
 use Rattle.costs.specs.declared.Cost.{Ghosts as Kind}
 use Rattle.costs.specs.Algebra.{Algebra, Lawful}
 use Rattle.registers.specs.Meaning.{Meaning, meant, standing, most_formats}
-use Rattle.walks.specs.Walk.{path, Below, cost, Chain, Loop, WalkCosts, Least, Gains, GainsAt}
+use Rattle.walks.specs.Walk.{path, Below, Walk, cost, Chain, Loop, WalkCosts, Least, Gains, GainsAt}
 use Rattle.bay.specs.Cells.{cards_in, least_in}
 use Rattle.walks.specs.Levels.{NoLoopBelow, Near, Looked}
 use Rattle.bay.specs.Eliminated.{FirstDone}
 use Rattle.bay.specs.Tracing.{Follows, Traced}
-use Rattle.bay.specs.Tracing.{LeadsIn}
+use Rattle.bay.specs.Tracing.{LeadsIn, to_goal}
 use Rattle.walks.specs.Levels.{upto}
 use Rattle.bay.specs.Solved.{Settled, Solved, Back, Turns}
 use Rattle.bay.specs.declared.cells.Cell.{Cell}
-use Rattle.walks.proofs.Runs.{Runs, to_runs, of_runs}
+use Rattle.walks.proofs.Runs.{Runs, to_runs, of_runs, path_from, path_of}
 use Rattle.walks.proofs.Least.{at_most_under, at_most_front, least_serves}
 use Rattle.walks.proofs.Cut.{distinct_front, least_is_near}
+use Rattle.bay.proofs.Follow.{follows_ends}
 use Rattle.bay.proofs.Sheets.{chain_leads_in}
+use Rattle.bay.proofs.Tights.{to_goal_inside}
 use Rattle.walks.proofs.Restrict.{upto_runs, runs_upto, upto_calm}
 
 -- an admitted cost is near
@@ -59,7 +61,7 @@ module _ {C : Type 0} (K : Kind C) (L : Lawful K.algebra) (n : ℕ) (card : ℕ 
       let small = back.sound.small in
       let inside = back.inside in
       L.within_more (n - 1) (suc n) x (omega arith) (omega arith)
-      (least_is_near L n (upto h card) back.sound back.calm v h ne x (subst (Least K.algebra (upto h card) v h) e (back.least v (omega arith) ne)))
+      (least_is_near L n (upto h card) back.sound back.calm v h x (subst (Least K.algebra (upto h card) v h) e (back.least v (omega arith) ne)))
 
   -- a closed walk at h goes out of h by a card and then up to h, where the least cost is at most as much
   pub turns_some : ((x : K.algebra.Value) → card h h ≡ Some x → ⊥) → GainsAt K.algebra card h → (v : ℕ) × (v < h) × Turns K n card cells h v
@@ -71,26 +73,29 @@ module _ {C : Type 0} (K : Kind C) (L : Lawful K.algebra) (n : ℕ) (card : ℕ 
           let l = below.0 in
           let inside = back.inside in
           let w = of_runs L (upto h card) v ms h b (runs_upto L h card v ms b l below.1 rest) in
-          let s = least_serves L (WalkCosts K.algebra (upto h card) v h) _ (back.least v (omega arith) (λ d. absurd (omega arith))) b (ms, w.0, w.1) in
+          let s = least_serves L (WalkCosts K.algebra (upto h card) v h) _ (back.least v (omega arith) (λ d. absurd (omega arith))) b (path v ms h, path_from v ms h, w.0, w.1) in
           (v, l, (K.algebra.join a s.0, (a, s.0, out, s.1, refl), at_most_under L (K.algebra.join a s.0) x K.algebra.unit (at_most_front L a s.0 b x s.2 e) under))
 
   -- `next` leads from v to h at the cost o over the cards f
   abbrev By : (ℕ → ℕ → Option K.algebra.Value) → List ℕ → ℕ → Option K.algebra.Value → Type 0
-  By f next v o = MatchOption o ((x : K.algebra.Value) → WalkCosts K.algebra f v h x → ⊥) (λ x. (ms : List ℕ) × Chain K.algebra f (path v ms h) × (cost K.algebra f (path v ms h) ≡ x) × Follows next h v (path v ms h))
+  By f next v o = MatchOption o ((x : K.algebra.Value) → WalkCosts K.algebra f v h x → ⊥) (λ x. (fs : List ℕ) × Chain K.algebra f fs × (cost K.algebra f fs ≡ x) × Follows next h v fs)
 
   -- the card out of h and the chain back make a loop
-  pub turns_loop : (next : List ℕ) (v : ℕ) → (v < h) × Turns K n card cells h v → ((w : ℕ) → w < n → (w ≡ h → ⊥) → Traced K n cells h next w) →
+  pub turns_loop : (next : List ℕ) (v : ℕ) → (v < h) × Turns K n card cells h v → ((w : ℕ) → w < n → Traced K n cells h next w) →
       (ms : List ℕ) × Loop K.algebra card h (v ∷ ms) × K.algebra.Under (cost K.algebra card (path h (v ∷ ms) h)) K.algebra.unit × Follows next h v (path v ms h) × LeadsIn most_formats next h v
   turns_loop next v (l, (x, (a, b, ea, eb, ex), under)) traced =
       let inside = back.inside in
-      let by = subst (λ f. By f next v (least_in K n cells v v)) back.cards (traced v (omega arith) (λ d. absurd (omega arith))) in
-      let (ms, chain, costs, follows) = subst (By (upto h card) next v) eb by in
-      let rest = (upto_runs L h card v ms h _ (to_runs L (upto h card) v ms h chain.0)).2 in
-      let q = of_runs L card h (v ∷ ms) h x (a, b, ea, subst (Runs K.algebra card v ms h) costs rest, ex) in
-      let d = distinct_front (v ∷ ms) h [] chain.1 in (
+      let ne : v ≡ h → ⊥ = λ d. absurd (omega arith) in
+      let by = subst (λ f. By f next v (to_goal K n cells h v)) back.cards (traced v (omega arith)) in
+      let (fs, chain, costs, follows) = subst (By (upto h card) next v) (to_goal_inside K L n cells h v (omega arith) ne ∙ eb) by in
+      let (ms, is) = path_of v h fs ne (follows_ends next h v fs follows) in
+      let walk : Walk K.algebra (upto h card) (path v ms h) = rw is at chain.0 in
+      let rest = (upto_runs L h card v ms h _ (to_runs L (upto h card) v ms h walk)).2 in
+      let q = of_runs L card h (v ∷ ms) h x (a, b, ea, subst (Runs K.algebra card v ms h) (ap (cost K.algebra (upto h card)) (sym is) ∙ costs) rest, ex) in
+      let d = distinct_front (v ∷ ms) h [] (rw is at chain.1) in (
         ms,
         (q.0, (d.1, d.0)),
         subst (λ y. K.algebra.Under y K.algebra.unit) (sym q.1) under,
-        follows,
-        chain_leads_in L n (upto h card) back.sound most_formats back.few back.few next h v ms chain follows,
+        rw is at follows,
+        chain_leads_in L n (upto h card) back.sound most_formats back.few back.few next h v fs back.inside chain follows,
       )

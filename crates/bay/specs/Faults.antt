@@ -5,13 +5,12 @@ use Rattle.registers.specs.declared.fault.Layer.TheVariants.{Bay}
 use Rattle.registers.specs.declared.fault.RegisterFault.{RegisterFault}
 use Rattle.registers.specs.Fault.{code, register_code}
 use Rattle.bay.specs.declared.fault.BayFault.{BayFault}
-use Rattle.bay.specs.declared.fault.BayFault.TheVariants.{Register, FromOutside, ToOutside, SameEnds, NoLeg, TableShort, CostsShort, ChainsShort, AnswersShort, LegsFull, NoLegs, Loop}
+use Rattle.bay.specs.declared.fault.BayFault.TheVariants.{Register, FromOutside, ToOutside, NoLeg, TableShort, CostsShort, ChainsShort, AnswersShort, LegsFull, NoLegs, Loop}
 
 abbrev pub bay_code : BayFault → Code
 bay_code (Register f) = register_code f
 bay_code FromOutside = code Bay 11 0
 bay_code ToOutside = code Bay 11 1
-bay_code SameEnds = code Bay 12 1
 bay_code NoLeg = code Bay 14 0
 bay_code TableShort = code Bay 15 0
 bay_code CostsShort = code Bay 15 1

@@ -1,5 +1,5 @@
 -- One leg: its ends and its note.
-use Rattle.std.specs.Prelude.{ℕ, ◌<◌, List, map, ◌≢◌, slice_index_or}
+use Rattle.std.specs.Prelude.{ℕ, List, map}
 use Rattle.bay.specs.declared.legs.Leg.{Leg}
 use Rattle.bay.specs.declared.legs.Note.{Note}
 use Rattle.bay.specs.declared.legs.Note.TheVariants.{Open}
@@ -15,10 +15,6 @@ open_leg a b = record { from = a; to = b; note = Open }
 -- the leg with another note
 abbrev pub noted : Note → Leg → Leg
 noted note leg = record { from = leg.from; to = leg.to; note = note }
-
--- each of the first n legs has two different ends
-abbrev pub Apart : ℕ → List Leg → Type 0
-Apart n legs = (k : ℕ) → k < n → (slice_index_or legs k no_leg).from ≢ (slice_index_or legs k no_leg).to
 
 -- every note open
 abbrev pub opened : List Leg → List Leg

@@ -5,7 +5,6 @@ use Rattle.costs.specs.declared.Cost.{Ghosts as Kind}
 use Rattle.costs.specs.Algebra.{Algebra}
 use Rattle.bay.specs.Sheet.{row_at, row_of}
 use Rattle.bay.specs.Tracing.{Follows}
-use Rattle.walks.specs.Walk.{path}
 use Rattle.bay.specs.Leg.{no_leg}
 use Rattle.bay.specs.Plain.{ends}
 use Rattle.bay.specs.Sheet.{row_bytes}
@@ -62,7 +61,7 @@ module _ {C : Type 0} (K : Kind C) where
   abbrev pub SlotAnswers : (ℕ → ℕ → Option K.algebra.Value) → List ℕ → LegSlot C → C → Type 0
   SlotAnswers card next q d =
       HasNoChain K.algebra card (ends q.leg) q.row (K.value (q.cost d)) ⊎
-      ((r : HasLeastChain K.algebra card (ends q.leg) q.row (K.value (q.cost d))) × Follows next q.leg.to q.leg.from (path q.leg.from r.inner q.leg.to))
+      ((r : HasLeastChain K.algebra card (ends q.leg) q.row (K.value (q.cost d))) × Follows next q.leg.to q.leg.from r.formats)
 
   pub record SlotDone (card : ℕ → ℕ → Option K.algebra.Value) (next : List ℕ) (q : LegSlot C) : Type 0 where
     pub note_is : q.leg.note ≡ note_of q.row

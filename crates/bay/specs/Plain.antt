@@ -1,5 +1,5 @@
 -- The plain bay: what the calls and their arguments alone make of a bay. It knows the register's meaning and the booked ends.
-use Rattle.std.specs.Prelude.{ℕ, ◌*◌, Bool, Option, List, [], ◌∷◌, ◌++◌, length, ◌==◌, nat_le, nat_lt}
+use Rattle.std.specs.Prelude.{ℕ, ◌*◌, ◌<◌, Bool, Option, List, [], ◌∷◌, ◌++◌, length, ◌==◌, nat_le, nat_lt}
 use Rattle.costs.specs.declared.Cost.{Ghosts as Kind}
 use Rattle.costs.specs.Kind.{admits}
 use Rattle.registers.specs.Fault.{code, first_cause, after}
@@ -17,6 +17,10 @@ use Rattle.bay.specs.declared.calls.Call.TheVariants.{Enter, Withdraw, Book, Str
 -- the ends of a booked leg
 abbrev pub ends : Leg → Ends
 ends leg = record { from = leg.from; to = leg.to }
+
+-- both ends are formats of n
+abbrev pub EndsBelow : ℕ → Ends → Type 0
+EndsBelow n leg = (leg.from < n) × (leg.to < n)
 
 -- two formats as the ends of a leg
 abbrev pub from_to : ℕ → ℕ → Ends

@@ -3,7 +3,7 @@
 use Rattle.std.specs.Prelude.{◌≡◌, ℕ, ◌<◌, cond, ◌⊎◌, List, [], ◌∷◌, ◌++◌, length, get_or, Option, ◌==◌, slice_index, slice_index_or}
 use Rattle.costs.specs.Algebra.{Algebra}
 use Rattle.bay.specs.Sheet.{row_of}
-use Rattle.walks.specs.Walk.{path, Walk, cost, Chain, Loop}
+use Rattle.walks.specs.Walk.{path, FromTo, Walk, cost, Chain, Loop}
 use Rattle.bay.specs.declared.legs.Ends.{Ends}
 use Rattle.bay.specs.declared.legs.Note.{Note}
 use Rattle.bay.specs.declared.legs.Note.TheVariants.{NoChain, Chain as ChainOf}
@@ -25,15 +25,16 @@ module _ (A : Algebra) (card : ℕ → ℕ → Option A.Value) where
   pub record HasNoChain (leg : Ends) (row : List ℕ) (paid : A.Value) : Type 0 where
     pub row_is : row ≡ row_of []
     pub costs : paid ≡ A.unit
-    pub no_walk : (ms : List ℕ) → Walk A card (path leg.from ms leg.to) → ⊥
+    pub no_walk : (fs : List ℕ) → FromTo leg.from leg.to fs → Walk A card fs → ⊥
 
   -- a chain from the leg's first format to its second, its cost, and no walk between them that undercuts it
   pub record HasLeastChain (leg : Ends) (row : List ℕ) (paid : A.Value) : Type 0 where
-    pub inner : List ℕ
-    pub row_is : row ≡ row_of (path leg.from inner leg.to)
-    pub chain : Chain A card (path leg.from inner leg.to)
-    pub costs : paid ≡ cost A card (path leg.from inner leg.to)
-    pub least : (ms : List ℕ) → Walk A card (path leg.from ms leg.to) → A.Under (cost A card (path leg.from ms leg.to)) paid → ⊥
+    pub formats : List ℕ
+    pub row_is : row ≡ row_of formats
+    pub from_to : FromTo leg.from leg.to formats
+    pub chain : Chain A card formats
+    pub costs : paid ≡ cost A card formats
+    pub least : (fs : List ℕ) → FromTo leg.from leg.to fs → Walk A card fs → A.Under (cost A card fs) paid → ⊥
 
   -- the rows and costs of all legs; two chains that end in the same format agree from where they meet
   pub record LeastChains (legs : List Ends) (row : ℕ → List ℕ) (paid : ℕ → A.Value) : Type 0 where

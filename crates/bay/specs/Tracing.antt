@@ -4,7 +4,7 @@ use Rattle.std.specs.Prelude.{◌≡◌, ℕ, ◌<◌, ◌≤◌, Bool, true, fa
 use Rattle.costs.specs.declared.Cost.{Ghosts as Kind}
 use Rattle.costs.specs.Algebra.{Algebra}
 use Rattle.registers.specs.Meaning.{most_formats}
-use Rattle.walks.specs.Walk.{path, Below, Distinct, Walk, cost, Chain, WalkCosts, Least, Gains, Tight}
+use Rattle.walks.specs.Walk.{Below, Distinct, Walk, cost, Chain, WalkCosts, Least, Gains, Tight}
 use Rattle.bay.specs.Sheet.{most_in_row}
 use Rattle.bay.specs.Cells.{cards_in, least_in, Laid}
 use Rattle.bay.specs.declared.cells.Cell.{Cell}
@@ -38,7 +38,7 @@ pub record Led (A : Algebra) (card : ℕ → ℕ → Option A.Value) (d : ℕ �
   pub follows : Follows next t v formats
   pub distinct : Distinct formats
   pub inside : Ticked ticked formats
-  pub walks : (v ≢ t) → Walk A card formats
+  pub walks : Walk A card formats
   pub costs : d v ≡ Some (cost A card formats)
 
 -- `next` leads to t from each format in the tree
@@ -121,10 +121,10 @@ module _ {C : Type 0} (K : Kind C) (n : ℕ) (cells : List (Cell C)) (goal : ℕ
   abbrev pub Traced : List ℕ → ℕ → Type 0
   Traced next v =
       let card : ℕ → ℕ → Option K.algebra.Value = cards_in K n cells in
-      MatchOption (least_in K n cells v v) ((x : K.algebra.Value) → WalkCosts K.algebra card v goal x → ⊥)
-      (λ x. (ms : List ℕ) × Chain K.algebra card (path v ms goal) × (cost K.algebra card (path v ms goal) ≡ x) × Follows next goal v (path v ms goal))
+      MatchOption (to_goal v) ((x : K.algebra.Value) → WalkCosts K.algebra card v goal x → ⊥)
+      (λ x. (fs : List ℕ) × Chain K.algebra card fs × (cost K.algebra card fs ≡ x) × Follows next goal v fs)
 
   -- each format that `next` passes on its way from v to the goal has a tick, where a walk leads there
   abbrev pub TickedFrom : List Bool → List ℕ → ℕ → Type 0
   TickedFrom ticked next v =
-      (x : K.algebra.Value) → least_in K n cells v v ≡ Some x → (fs : List ℕ) → Follows next goal v fs → Ticked ticked fs
+      (x : K.algebra.Value) → to_goal v ≡ Some x → (fs : List ℕ) → Follows next goal v fs → Ticked ticked fs

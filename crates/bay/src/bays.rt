@@ -1,10 +1,11 @@
 // A register and the legs that are to be routed over its cards.
-ghost use Rattle.std.specs.Prelude.{◌≡◌, ◌+◌, ◌*◌, ◌≤◌, true, [], ◌∷◌, ◌++◌, length, IfOk, OnErr, OnOk, slice_index_or};
+ghost use Rattle.std.specs.Prelude.{◌≡◌, ◌+◌, ◌*◌, ◌≤◌, true, [], ◌∷◌, ◌++◌, length, map, All, IfOk, OnErr, OnOk, slice_index_or};
 ghost use Rattle.registers.specs.Fault.{first_cause, after};
 ghost use Rattle.bay.specs.Faults.{refused};
 ghost use Rattle.bay.specs.Leg.{no_leg, open_leg, opened};
 ghost use Rattle.bay.specs.Legs.{booked, struck};
 ghost use Rattle.bay.specs.Limits.{most_legs};
+ghost use Rattle.bay.specs.Plain.{EndsBelow, ends};
 
 use crate::calls::{Answer, CHAIN_BYTES, Call};
 use crate::cells::Cell;
@@ -22,7 +23,8 @@ use registers::{Format, MOST_FORMATS, Register, judge_ends};
 pub struct Bay<R: Register> {
     register: R,
     legs: Legs,
-    ghost few: { legs.count ≤ most_legs },
+    // every leg's ends are formats of the register
+    ghost inside: { All (EndsBelow (R.holds register).size) (map ends (booked legs)) },
 }
 
 impl<R: Register> Bay<R> {

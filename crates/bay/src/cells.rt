@@ -1,7 +1,9 @@
 // The cells of a working table.
 ghost use Rattle.std.specs.Prelude.{◌≡◌, ◌*◌, ◌<◌, ◌≤◌, length};
 ghost use Rattle.costs.specs.Algebra.{reach};
+ghost use Rattle.std.specs.Option.{option_map};
 ghost use Rattle.bay.specs.Cells.{cell, empty};
+ghost use Rattle.bay.specs.Tracing.{to_goal};
 
 use costs::Cost;
 
@@ -34,4 +36,18 @@ pub(crate) fn cell_at<C: Cost>(cells: &[Cell<C>], n: usize, s: usize, t: usize) 
     ensures { result ≡ cell n cells.now s t }
 {
     cells[s * n + t]
+}
+
+// The least cost from `v` to the goal, where the diagonal cells of the other formats have theirs: the unit at the goal itself.
+pub(crate) fn least_to<C: Cost>(cells: &[Cell<C>], n: usize, goal: usize, v: usize) -> Option<C>
+    requires room { n * n ≤ length cells.now }
+    requires small { n ≤ reach }
+    requires inside { v < n }
+    ensures { option_map C.value result ≡ to_goal C.Cost n cells.now goal v }
+{
+    if v == goal {
+        Some(C::unit())
+    } else {
+        cell_at(cells, n, v, v).least
+    }
 }

@@ -12,7 +12,6 @@ pub enum BayFault {
     Register(RegisterFault),
     FromOutside,
     ToOutside,
-    SameEnds,
     NoLeg,
     TableShort,
     CostsShort,
@@ -33,7 +32,6 @@ impl BayFault {
             BayFault::Register(fault) => return fault.code(),
             BayFault::FromOutside => (11, 0),
             BayFault::ToOutside => (11, 1),
-            BayFault::SameEnds => (12, 1),
             BayFault::NoLeg => (14, 0),
             BayFault::TableShort => (15, 0),
             BayFault::CostsShort => (15, 1),
@@ -67,7 +65,6 @@ impl From<EndsFault> for BayFault {
         match fault {
             EndsFault::FromOutside => BayFault::FromOutside,
             EndsFault::ToOutside => BayFault::ToOutside,
-            EndsFault::SameEnds => BayFault::SameEnds,
         }
     }
 }

@@ -1,6 +1,6 @@
 // The legs of a bay, in an array of fixed length, and what a bay does with them.
-ghost use Rattle.std.specs.Prelude.{◌≡◌, ◌<◌, ◌≤◌, [], ◌∷◌, ◌++◌, length, MatchOption, ◌≢◌, slice_index_or, slice_set, take, drop};
-ghost use Rattle.bay.specs.Leg.{Apart, no_leg, noted, opened};
+ghost use Rattle.std.specs.Prelude.{◌≡◌, ◌<◌, ◌≤◌, [], ◌∷◌, ◌++◌, length, MatchOption, slice_index_or, slice_set, take, drop};
+ghost use Rattle.bay.specs.Leg.{no_leg, noted, opened};
 ghost use Rattle.bay.specs.Limits.{most_legs};
 
 use registers::Format;
@@ -26,7 +26,8 @@ pub struct Ends {
     pub to: Format,
 }
 
-// A chain is wanted between two formats. They stand in the leg itself, since a host reads `leg.from` of a leg that is shown.
+// A chain is wanted from one format to another, or to the same. They stand in the leg itself, since a host reads `leg.from` of a
+// leg that is shown.
 #[derive(Clone, Copy, Debug, PartialEq, Eq)]
 pub struct Leg {
     pub from: Format,
@@ -41,12 +42,11 @@ pub struct Legs {
     pub count: usize,
     ghost long: { length list ≡ most_legs },
     ghost few: { count ≤ most_legs },
-    ghost apart: { Apart count list },
 }
 
 const NO_LEG: Leg = Leg {
     from: 0,
-    to: 1,
+    to: 0,
     note: Note::Open,
 };
 
@@ -98,8 +98,7 @@ impl Legs {
 
     // One leg more at the end.
     pub(crate) fn push(&mut self, leg: Leg)
-        requires room { length (booked self.old) < most_legs }
-        requires apart { leg.from ≢ leg.to }
+        requires { length (booked self.old) < most_legs }
         ensures { booked self.new ≡ booked self.old ++ leg ∷ [] }
     {
         self.list[self.count] = leg;

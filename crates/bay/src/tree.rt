@@ -7,7 +7,7 @@ ghost use Rattle.bay.specs.Cells.{Laid, cards_in, least_in};
 ghost use Rattle.walks.specs.Walk.{Gains, Least};
 ghost use Rattle.bay.specs.Tracing.{Clear, GoalReady, Rises, TickedFrom, Traced, Wider};
 
-use crate::cells::{Cell, cell_at};
+use crate::cells::{Cell, cell_at, least_to};
 use costs::Cost;
 use registers::MOST_FORMATS;
 use std::marker::Model;
@@ -171,11 +171,7 @@ impl<C: Cost> GoalTable<'_, C> {
         requires { to < self.now.n }
         ensures { option_map C.value result ≡ rest_of self.now to }
     {
-        if to == self.goal {
-            Some(C::unit())
-        } else {
-            cell_at(self.cells, self.n, to, to).least
-        }
+        least_to(self.cells, self.n, self.goal, to)
     }
 
     // Whether a card leads from `from` to `to` that is tight on the way to the goal: with the rest of the way from `to`, it
@@ -334,9 +330,9 @@ pub(crate) fn trace<C: Cost>(
     requires least { (v : ℕ) → v < n → (v ≢ goal) →
         Least C.algebra (cards_in C.Cost n cells.now) v goal (least_in C.Cost n cells.now v v) }
     requires clear { Clear ticks.old.sheet.now }
-    ensures traced { (v : ℕ) → v < n → (v ≢ goal) → slice_index_or wanted.now v false ≡ true →
+    ensures traced { (v : ℕ) → v < n → slice_index_or wanted.now v false ≡ true →
         Traced C.Cost n cells.now goal next.new v }
-    ensures ticked { (v : ℕ) → v < n → (v ≢ goal) → slice_index_or wanted.now v false ≡ true →
+    ensures ticked { (v : ℕ) → v < n → slice_index_or wanted.now v false ≡ true →
         TickedFrom C.Cost n cells.now goal ticks.new.sheet.now next.new v }
     ensures same { ticks.new.sheet.ghost_name ≡ ticks.old.sheet.ghost_name }
 {

@@ -4,7 +4,7 @@ ghost use Rattle.std.specs.Prelude.{◌≡◌, ℕ, ◌*◌, ◌<◌, ◌≤◌,
 ghost use Rattle.registers.specs.Meaning.{most_formats};
 ghost use Rattle.walks.specs.Walk.{Gains, Least};
 ghost use Rattle.bay.specs.Buffers.{Beyond};
-ghost use Rattle.bay.specs.Cells.{Kept, Laid, cards_in, least_in};
+ghost use Rattle.bay.specs.Cells.{Kept, Laid, cards_in};
 ghost use Rattle.bay.specs.Eliminated.{FirstDone};
 ghost use Rattle.bay.specs.Leg.{noted};
 ghost use Rattle.bay.specs.LegSlots.{Awaits, Blank, EndsIn, GoalServed, LegDone, Spares, Written, leg_slot};
@@ -12,9 +12,9 @@ ghost use Rattle.bay.specs.Legs.{booked};
 ghost use Rattle.bay.specs.Plain.{ends};
 ghost use Rattle.bay.specs.Routes.{LeastChains, note_of};
 ghost use Rattle.bay.specs.Sheet.{row_at, row_bytes};
-ghost use Rattle.bay.specs.Tracing.{Clear, Traced};
+ghost use Rattle.bay.specs.Tracing.{Clear, Traced, to_goal};
 
-use crate::cells::{Cell, cell_at};
+use crate::cells::{Cell, least_to};
 use crate::legs::{Leg, Legs, Note};
 use crate::rows::{write_chain, write_no_chain};
 use crate::substitution::solve_to;
@@ -49,7 +49,7 @@ impl<C> Drop for RouteWriter<'_, C> {
 }
 
 impl<C: Cost> RouteWriter<'_, C> {
-    ghost use Rattle.bay.specs.RouteWriters.{SameMemory, leg_of, number_of, slots_of};
+    ghost use Rattle.bay.specs.RouteWriters.{LegsBelow, SameMemory, leg_of, number_of, slots_of};
 
     // Every leg without a chain, at the cost that changes nothing.
     fn clear(&mut self)
@@ -76,13 +76,13 @@ impl<C: Cost> RouteWriter<'_, C> {
 
     // The formats where a leg to the goal begins.
     fn starts_to(&self, goal: usize) -> [bool; MOST_FORMATS]
+        requires { LegsBelow most_formats self.now }
         ensures { (k : ℕ) → k < number_of self.now → EndsIn (slots_of self.now) k goal →
-            (leg_of self.now k).from < most_formats →
             slice_index_or result (leg_of self.now k).from false ≡ true }
     {
         let mut starts = [false; MOST_FORMATS];
         for leg in self.legs.as_slice() {
-            if leg.to == goal && leg.from < MOST_FORMATS {
+            if leg.to == goal {
                 starts[leg.from] = true;
             }
         }
@@ -100,20 +100,17 @@ impl<C: Cost> RouteWriter<'_, C> {
     )
         requires laid { Laid C.Cost n table.now }
         requires few { n ≤ most_formats }
-        requires least { let v = leg.from in
-            let least = least_in C.Cost n table.now v v in
-            v < n → Least C.algebra (cards_in C.Cost n table.now) v leg.to least }
-        requires leg { (k < number_of self.old) × (leg ≡ leg_of self.old k) × (leg.to < n) }
-        requires traced { leg.from < n → Traced C.Cost n table.now leg.to next.now leg.from }
+        requires leg { (k < number_of self.old) × (leg ≡ leg_of self.old k) }
+        requires inside { (leg.from < n) × (leg.to < n) }
+        requires least { let least = to_goal C.Cost n table.now leg.to leg.from in
+            Least C.algebra (cards_in C.Cost n table.now) leg.from leg.to least }
+        requires traced { Traced C.Cost n table.now leg.to next.now leg.from }
         requires blank { Blank C.Cost (leg_slot (slots_of self.old) k) }
         ensures lent { SameMemory self.old self.new }
         ensures done { let cards = cards_in C.Cost n table.now in
             LegDone C.Cost cards next.now k (slots_of self.old) (slots_of self.new) }
     {
-        if leg.from >= n {
-            return;
-        }
-        let Some(cost) = cell_at(table, n, leg.from, leg.from).least else {
+        let Some(cost) = least_to(table, n, leg.to, leg.from) else {
             return;
         };
         self.costs[k] = cost;
@@ -126,10 +123,10 @@ impl<C: Cost> RouteWriter<'_, C> {
         requires laid { Laid C.Cost n table.now }
         requires few { n ≤ most_formats }
         requires inside { goal < n }
-        requires least { (v : ℕ) → v < n → (v ≢ goal) →
-            Least C.algebra (cards_in C.Cost n table.now) v goal (least_in C.Cost n table.now v v) }
+        requires legs { LegsBelow n self.old }
+        requires least { (v : ℕ) → v < n → let least = to_goal C.Cost n table.now goal v in
+            Least C.algebra (cards_in C.Cost n table.now) v goal least }
         requires traced { (k : ℕ) → k < number_of self.old → EndsIn (slots_of self.old) k goal →
-            (leg_of self.old k).from < n → ((leg_of self.old k).from ≢ goal) →
             Traced C.Cost n table.now goal next.now (leg_of self.old k).from }
         requires awaits { Awaits C.Cost goal (slots_of self.old) }
         ensures lent { SameMemory self.old self.new }
@@ -157,6 +154,7 @@ impl<C: Cost> RouteWriter<'_, C> {
     )
         requires laid { Laid C.Cost n table.old }
         requires few { n ≤ most_formats }
+        requires legs { LegsBelow n self.old }
         requires calm { Gains C.algebra (cards_in C.Cost n table.old) → ⊥ }
         requires low { FirstDone C.Cost n (cards_in C.Cost n table.old) table.old }
         requires clear { Clear sheet.old }

@@ -8,7 +8,7 @@ ghost use Rattle.lent.specs.Matrix.{matrix_causes};
 use crate::matrix::matrix_fits;
 use crate::memory::{judge_memory, nearest_size};
 use costs::Cost;
-use registers::{Format, Register, RegisterFault, judge_ends, judge_entry};
+use registers::{Format, Register, RegisterFault, judge_entry, judge_pair};
 
 // A register of `n` formats over the first n × n of `costs`, row by row. They stay as they are: every pair is sealed. A cost
 // that no card may have stands for no card. Where `n` or the memory will not do, there is no card.
@@ -53,7 +53,7 @@ impl<'a, C: Cost> Register for Grid<'a, C> {
     }
 
     fn card(&self, from: Format, to: Format) -> Option<C> {
-        judge_ends(self.size(), from, to).ok()?;
+        judge_pair(self.size(), from, to).ok()?;
         if !matrix_fits(self.n, self.costs.len()) {
             return None;
         }
@@ -66,7 +66,7 @@ impl<'a, C: Cost> Register for Grid<'a, C> {
     }
 
     fn withdraw(&mut self, from: Format, to: Format) -> Result<(), RegisterFault> {
-        judge_ends(self.size(), from, to)?;
+        judge_pair(self.size(), from, to)?;
         Err(RegisterFault::Sealed)
     }
 }

@@ -8,7 +8,7 @@ ghost use Rattle.lent.specs.List.{entries_fit, list_fits, list_causes, cost_for,
 
 use crate::memory::{judge_memory, nearest_size, size_fits};
 use costs::Cost;
-use registers::{Format, MOST_FORMATS, Register, RegisterFault, judge_ends, judge_entry};
+use registers::{Format, MOST_FORMATS, Register, RegisterFault, judge_entry, judge_pair};
 
 // A list can use at most so many entries: one for each pair of the most formats.
 pub const MOST_ENTRIES: usize = MOST_FORMATS * (MOST_FORMATS - 1);
@@ -165,7 +165,7 @@ impl<'a, C: Cost> Register for List<'a, C> {
     }
 
     fn card(&self, from: Format, to: Format) -> Option<C> {
-        judge_ends(self.size(), from, to).ok()?;
+        judge_pair(self.size(), from, to).ok()?;
         if !list_fits(self.n, self.entries.len()) {
             return None;
         }
@@ -217,7 +217,7 @@ impl<'a, C: Cost> Register for List<'a, C> {
         ensures size { self.new.n ≡ self.old.n }
         ensures lent { self.new.entries.ghost_name ≡ self.old.entries.ghost_name }
     {
-        judge_ends(self.size(), from, to)?;
+        judge_pair(self.size(), from, to)?;
         if !list_fits(self.n, self.entries.len()) {
             return Err(RegisterFault::Sealed);
         }

@@ -8,7 +8,7 @@ ghost use Rattle.lent.specs.Matrix.{matrix_fits, matrix_causes, matrix, matrix_m
 
 use crate::memory::{judge_memory, nearest_size, size_fits};
 use costs::Cost;
-use registers::{Format, Register, RegisterFault, judge_ends, judge_entry};
+use registers::{Format, Register, RegisterFault, judge_entry, judge_pair};
 
 // A register of `n` formats in the first n × n places of `places`, row by row. Where `n` or the memory will not do,
 // it has no card and no free place, and every pair is sealed.
@@ -75,7 +75,7 @@ impl<'a, C: Cost> Register for Matrix<'a, C> {
     }
 
     fn card(&self, from: Format, to: Format) -> Option<C> {
-        judge_ends(self.size(), from, to).ok()?;
+        judge_pair(self.size(), from, to).ok()?;
         if !matrix_fits(self.n, self.places.len()) {
             return None;
         }
@@ -116,7 +116,7 @@ impl<'a, C: Cost> Register for Matrix<'a, C> {
         ensures size { self.new.n ≡ self.old.n }
         ensures lent { self.new.places.ghost_name ≡ self.old.places.ghost_name }
     {
-        judge_ends(self.size(), from, to)?;
+        judge_pair(self.size(), from, to)?;
         if !matrix_fits(self.n, self.places.len()) {
             return Err(RegisterFault::Sealed);
         }

@@ -31,7 +31,9 @@ pub struct View<'a, C> {
 fn amount_at<C: TicketCost>(costs: &[C], k: usize) -> Amount
     ensures { result ≡ slice_index_or (map C.writes costs.now) k no_amount }
 {
-    costs.get(k).map_or(Amount::HalfLines(0), |cost| cost.amount())
+    costs
+        .get(k)
+        .map_or(Amount::HalfLines(0), |cost| cost.amount())
 }
 
 // A line for each leg, and the end line.

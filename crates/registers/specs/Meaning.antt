@@ -23,13 +23,17 @@ IsSize n = (least_formats ≤ n) × (n ≤ most_formats)
 abbrev pub possible : ℕ → ℕ → ℕ → Bool
 possible n a b = nat_lt a n && (nat_lt b n && not (a == b))
 
--- why a layer refuses two ends, in order: one that is no format of n, and equal ends
+-- why a layer refuses two ends, in order: one that is no format of n
 abbrev pub end_causes : Layer → ℕ → ℕ → ℕ → List (Bool × Code)
-end_causes l n a b = (not (nat_lt a n), code l 11 0) ∷ (not (nat_lt b n), code l 11 1) ∷ ((a == b), code l 12 1) ∷ []
+end_causes l n a b = (not (nat_lt a n), code l 11 0) ∷ (not (nat_lt b n), code l 11 1) ∷ []
 
--- why a card is refused before its register looks at what it holds, in order: its ends, and a cost that no card may have
+-- why no card can lead from a to b, in order: its ends, and that they are equal
+abbrev pub pair_causes : ℕ → ℕ → ℕ → List (Bool × Code)
+pair_causes n a b = end_causes Register n a b ++ ((a == b), code Register 12 1) ∷ []
+
+-- why a card is refused before its register looks at what it holds, in order: its pair, and a cost that no card may have
 abbrev pub entry_causes : ℕ → ℕ → ℕ → Bool → List (Bool × Code)
-entry_causes n a b admitted = end_causes Register n a b ++ (not admitted, code Register 13 2) ∷ []
+entry_causes n a b admitted = pair_causes n a b ++ (not admitted, code Register 13 2) ∷ []
 
 pub record Meaning (V : Type 0) : Type 0 where
   -- how many formats there are: they are the numbers below
@@ -66,14 +70,14 @@ module _ {V : Type 0} where
   abbrev pub withdrawn : Meaning V → ℕ → ℕ → Meaning V
   withdrawn m a b = record { size = m.size; cards = put m.cards a b None; sealed = m.sealed; free = m.free + 1 }
 
-  -- why enter is refused, in order: its ends, a cost that no card may have, a sealed pair, no free place
+  -- why enter is refused, in order: its pair, a cost that no card may have, a sealed pair, no free place
   abbrev pub enter_causes : Meaning V → ℕ → ℕ → Bool → List (Bool × Code)
   enter_causes m a b admitted =
       entry_causes m.size a b admitted ++ (m.sealed a b, code Register 21 0) ∷ (not (is_some (standing m a b)) && (m.free == 0), code Register 23 0) ∷ []
 
-  -- why withdraw is refused, in order: its ends, a sealed pair, no card
+  -- why withdraw is refused, in order: its pair, a sealed pair, no card
   abbrev pub withdraw_causes : Meaning V → ℕ → ℕ → List (Bool × Code)
-  withdraw_causes m a b = end_causes Register m.size a b ++ (m.sealed a b, code Register 21 0) ∷ (not (is_some (standing m a b)), code Register 22 0) ∷ []
+  withdraw_causes m a b = pair_causes m.size a b ++ (m.sealed a b, code Register 21 0) ∷ (not (is_some (standing m a b)), code Register 22 0) ∷ []
 
 -- the cost of the standing card from a to b, by what it means
 abbrev pub stands : {C : Type 0} (K : Kind C) → Meaning C → ℕ → ℕ → Option K.algebra.Value

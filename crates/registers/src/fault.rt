@@ -53,7 +53,6 @@ impl fmt::Display for Code {
 pub enum EndsFault {
     FromOutside,
     ToOutside,
-    SameEnds,
 }
 
 // Why a register, or the check before one is made, refuses.
@@ -102,7 +101,6 @@ impl From<EndsFault> for RegisterFault {
         match fault {
             EndsFault::FromOutside => RegisterFault::FromOutside,
             EndsFault::ToOutside => RegisterFault::ToOutside,
-            EndsFault::SameEnds => RegisterFault::SameEnds,
         }
     }
 }

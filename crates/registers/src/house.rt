@@ -4,7 +4,7 @@ ghost use Rattle.std.specs.Option.{option_map};
 ghost use Rattle.costs.specs.Delay.{most_half_lines};
 ghost use Rattle.registers.specs.House.{house, house_places, house_cards, number, delayed};
 
-use crate::judge::{judge_ends, judge_entry};
+use crate::judge::{judge_entry, judge_pair};
 use crate::{Format, Register, RegisterFault};
 use costs::Delay;
 
@@ -62,7 +62,7 @@ impl Register for HouseTable {
     }
 
     fn card(&self, from: Format, to: Format) -> Option<Delay> {
-        judge_ends(HOUSE_SIZE, from, to).ok()?;
+        judge_pair(HOUSE_SIZE, from, to).ok()?;
         delay_at(from * HOUSE_SIZE + to)
     }
 
@@ -71,7 +71,7 @@ impl Register for HouseTable {
     }
 
     fn withdraw(&mut self, from: Format, to: Format) -> Result<(), RegisterFault> {
-        judge_ends(HOUSE_SIZE, from, to)?;
+        judge_pair(HOUSE_SIZE, from, to)?;
         Err(RegisterFault::Sealed)
     }
 }

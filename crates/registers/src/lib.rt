@@ -1,6 +1,6 @@
 // Registers: which converter cards stand, behind one trait. The layers above are proved over a register's meaning.
-// `judge_ends` and `judge_entry` are pub only for our own crates: a register of theirs judges its calls by them, and the bay
-// its legs.
+// `judge_ends`, `judge_pair` and `judge_entry` are pub only for our own crates: a register of theirs judges its calls by the last
+// two, and the bay its legs by the first.
 #![tactic(auto)]
 
 mod bar;
@@ -21,7 +21,7 @@ pub use bar::{Bar, Bars};
 use costs::Cost;
 pub use fault::{Code, EndsFault, Layer, RegisterFault};
 pub use house::HouseTable;
-pub use judge::{judge_ends, judge_entry};
+pub use judge::{judge_ends, judge_entry, judge_pair};
 pub use over::{Over, View};
 pub use reversed::{Reversed, Turned};
 

@@ -5,7 +5,7 @@ ghost use Rattle.registers.specs.Meaning.{entered, enter_causes, meant, withdraw
 ghost use Rattle.registers.specs.View.{pair_below, viewed};
 ghost use Rattle.costs.specs.Kind.{admits};
 
-use crate::judge::{judge_ends, judge_entry};
+use crate::judge::{judge_entry, judge_pair};
 use crate::{Format, Register, RegisterFault};
 use costs::Cost;
 
@@ -105,7 +105,7 @@ impl<R: Register, V: View> Register for Over<R, V> {
             ≡ after (refusal result) m (withdrawn m from to) }
         ensures view { self.new.view ≡ self.old.view }
     {
-        judge_ends(self.below.size(), from, to)?;
+        judge_pair(self.below.size(), from, to)?;
         if self.view.shuts(from, to) {
             return Err(RegisterFault::Sealed);
         }

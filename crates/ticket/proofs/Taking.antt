@@ -72,7 +72,7 @@ after_none (Some c) x y e = absurd (let z : ◌≡◌ {A = ℕ} 0 1 = cc in omeg
 
 -- a leg is booked where there is room for it
 pub book_room : {C : Type 0} {K : Kind C} (p : Plain K) (a b : ℕ) → first_cause (book_causes p a b) ≡ None → length p.legs < most_legs
-book_room p a b e = leb-false most_legs (length p.legs) (none_holds (book_causes p a b) e).1.1.1.0
+book_room p a b e = leb-false most_legs (length p.legs) (none_holds (book_causes p a b) e).1.1.0
 
 -- one element more in the front of a place
 pub front_more : {X : Type 0} (new : List X) (x : X) (old : List X) (n : ℕ) → n ≡ length new → n < length old → set (in_front new old) n x ≡ in_front (new ++ x ∷ []) old

@@ -61,6 +61,27 @@ fn ties(rt: &HostRuntime) -> anyhow::Result<()> {
 fn loops(rt: &HostRuntime) -> anyhow::Result<()> {
     show::<Delay>(
         rt,
+        "legs with equal ends at a loop of no delay",
+        3,
+        &[card(0, 1, 0), card(1, 0, 0), card(0, 2, 5)],
+        &[leg(0, 0), leg(1, 0), leg(2, 2)],
+    )?;
+    show::<Depth>(
+        rt,
+        "a leg with equal ends beside another",
+        3,
+        &[card(0, 1, 10), card(1, 2, 8)],
+        &[leg(2, 2), leg(0, 2)],
+    )?;
+    show::<Delay>(
+        rt,
+        "a loop away from a leg with equal ends",
+        4,
+        &[card(2, 3, -1), card(3, 2, 0)],
+        &[leg(0, 0)],
+    )?;
+    show::<Delay>(
+        rt,
         "a loop away from the leg",
         4,
         &[card(0, 1, 1), card(2, 3, -1), card(3, 2, 0)],
@@ -189,8 +210,9 @@ fn refusals(rt: &HostRuntime) -> anyhow::Result<()> {
     route_in(rt, "no legs", &mut bay, 0, 0, 0)?;
     print_answer(rt, "book 3 0", bay.book(3, 0))?;
     print_answer(rt, "book 0 3", bay.book(0, 3))?;
+    print_answer(rt, "book 3 3", bay.book(3, 3))?;
     print_answer(rt, "book 1 1", bay.book(1, 1))?;
-    for _ in 0..32 {
+    for _ in 0..31 {
         let _ = bay.book(0, 1);
     }
     print_answer(rt, "leg 33", bay.book(1, 2))?;

@@ -24,12 +24,7 @@ fn draw_cards<C: Kind>(heap: Global, dice: &mut Dice, n: usize) -> Result<Vec<Ca
 
 fn draw_leg(dice: &mut Dice, n: usize) -> Ends {
     let from = dice.below(n);
-    let other = dice.below(n.saturating_sub(1));
-    let to = if other < from {
-        other
-    } else {
-        other.saturating_add(1)
-    };
+    let to = dice.below(n);
     Ends { from, to }
 }
 

@@ -113,16 +113,13 @@ fn is_right<C: Kind, R: Register<Cost = C>>(
     formats: &[u8],
     number: i32,
 ) -> bool {
-    match formats {
-        [] => number == C::neutral(),
-        [_] => false,
-        [first, .., last] => {
-            usize::from(*first) == leg.from
-                && usize::from(*last) == leg.to
-                && is_without_repeats(formats)
-                && walk_number(register, formats) == Some(number)
-        }
-    }
+    let (Some(first), Some(last)) = (formats.first(), formats.last()) else {
+        return number == C::neutral();
+    };
+    usize::from(*first) == leg.from
+        && usize::from(*last) == leg.to
+        && is_without_repeats(formats)
+        && walk_number(register, formats) == Some(number)
 }
 
 // Whether two chains without repeats are the same from where they meet.

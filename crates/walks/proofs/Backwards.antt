@@ -1,8 +1,8 @@
 -- Where every card is turned round, every walk leads back: from its end to its beginning, at the same cost.
-use Rattle.std.proofs.Common.{◌≡◌, ℕ, List, [], ◌∷◌, ◌++◌, Option, sym, ◌∙◌, subst}
+use Rattle.std.proofs.Common.{◌≡◌, ℕ, ◌⊎◌, List, [], ◌∷◌, ◌++◌, Option, sym, ap, ◌∙◌, subst, inl, inr}
 use Rattle.costs.specs.Algebra.{Algebra, Lawful}
-use Rattle.walks.specs.Walk.{path, Walk, cost, WalkCosts, Least, Gains}
-use Rattle.walks.proofs.Runs.{Runs, to_runs, of_runs, runs_join}
+use Rattle.walks.specs.Walk.{path, FromTo, Walk, cost, WalkCosts, Least, Gains}
+use Rattle.walks.proofs.Runs.{Runs, to_runs, of_runs, one_from, path_from, one_or_path, runs_join}
 use Rattle.walks.proofs.Least.{least_same}
 
 module _ {A : Algebra} (L : Lawful A) (card back : ℕ → ℕ → Option A.Value) (turned : (a b : ℕ) → back a b ≡ card b a) where
@@ -22,8 +22,12 @@ module _ {A : Algebra} (L : Lawful A) (card back : ℕ → ℕ → Option A.Valu
   pub gains_back : Gains A card → Gains A back
   gains_back (h, ms, w, u) = let (ns, v, e) = walk_back h ms h w in (h, ns, v, rw e u)
 
-  walk_costs_back : (s t : ℕ) (x : A.Value) → WalkCosts A card s t x → WalkCosts A back t s x
-  walk_costs_back s t x (ms, w, e) = let (ns, v, d) = walk_back s ms t w in (ns, v, d ∙ e)
+  pub walk_costs_back : (s t : ℕ) (x : A.Value) → WalkCosts A card s t x → WalkCosts A back t s x
+  walk_costs_back s t x (fs, ends, w, e) = go (one_or_path s t fs ends)
+    where
+      go : ((s ≡ t) × (fs ≡ s ∷ [])) ⊎ ((ms : List ℕ) × (fs ≡ path s ms t)) → WalkCosts A back t s x
+      go (inl (same, is)) = (s ∷ [], subst (λ v. FromTo v s (s ∷ [])) same (one_from s), tt, ap (cost A card) (sym is) ∙ e)
+      go (inr (ms, is)) = let (ns, v, d) = walk_back s ms t (rw is at w) in (path t ns s, path_from t ns s, v, d ∙ ap (cost A card) (sym is) ∙ e)
 
 -- the least cost there is the least cost back
 pub least_back : {A : Algebra} (L : Lawful A) (card back : ℕ → ℕ → Option A.Value) → ((a b : ℕ) → back a b ≡ card b a) → (s t : ℕ) (o : Option A.Value) →

@@ -1,12 +1,12 @@
 -- Walks are cut at repeated formats to chains that cost no more, where no closed walk gains.
 -- A chain has few cards, so a least cost lies within few cards.
-use Rattle.std.proofs.Common.{◌≡◌, ℕ, zero, suc, ◌-◌, ◌<◌, ◌≤◌, max, ◌⊎◌, List, [], ◌∷◌, ◌++◌, length, Some, Option, sym, refl, ap, subst, subst₂, inl, inr, arith, length-append}
+use Rattle.std.proofs.Common.{◌≡◌, ℕ, zero, suc, ◌-◌, ◌<◌, ◌≤◌, max, ◌⊎◌, List, [], ◌∷◌, ◌++◌, length, Some, Option, sym, refl, ap, ◌∙◌, subst, subst₂, inl, inr, arith, length-append}
 use Rattle.std.proofs.lemmas.Bool.{cases_order, cases_eq}
 use Rattle.costs.specs.Algebra.{Algebra, Lawful, reach}
-use Rattle.walks.specs.Walk.{path, Below, Absent, Distinct, cost, LowLeast, Gains, GainsAt}
-use Rattle.walks.specs.Theorems.{Sound, CutToChain, LeastIsNear}
-use Rattle.walks.proofs.Runs.{Runs, to_runs, of_runs, runs_split}
-use Rattle.walks.proofs.Least.{AtMost, at_most_self, at_most_trans, at_most_both, at_most_front, drop_front, drop_back}
+use Rattle.walks.specs.Walk.{path, FromTo, Below, Absent, Distinct, cost, Chain, WalkCosts, Least, LowLeast, Gains, GainsAt}
+use Rattle.walks.specs.Theorems.{Sound, CutToChain, LeastIsNear, UnitIsLeast}
+use Rattle.walks.proofs.Runs.{Runs, of_runs, one_from, path_from, one_or_path, runs_cost, cost_runs, runs_split}
+use Rattle.walks.proofs.Least.{AtMost, at_most_self, at_most_trans, at_most_both, at_most_front, drop_front, drop_back, least_unique}
 use Rattle.walks.proofs.Fold.{Low, below_mono, below_join, to_low, of_low}
 use Rattle.walks.proofs.Loops.{runs_inside, no_low_loop}
 
@@ -150,19 +150,48 @@ module _ {A : Algebra} (L : Lawful A) (card : ℕ → ℕ → Option A.Value) wh
       let small = sound.small in
       subst (λ y. A.Within (suc h) y) e (L.within_more (suc (length c.0)) (suc h) c.1 (omega arith) (omega arith) (runs_within n sound s c.0 t c.1 (omega arith) c.4))
 
+-- from a format to itself: the format alone costs the unit, which no closed walk undercuts
+pub unit_is_least : {A : Algebra} → Lawful A → UnitIsLeast A
+unit_is_least {A} L card calm s = ((s ∷ [], one_from s, tt, refl), none_under)
+  where
+    none_under : (y : A.Value) → WalkCosts A card s s y → AtMost A A.unit y
+    none_under y (fs, ends, w, e) u = go (one_or_path s s fs ends)
+      where
+        go : ((s ≡ s) × (fs ≡ s ∷ [])) ⊎ ((ms : List ℕ) × (fs ≡ path s ms s)) → ⊥
+        go (inl one) = L.not_equal y A.unit u (sym e ∙ ap (cost A card) one.1)
+        go (inr (ms, is)) = calm (s, ms, rw is at w, subst (λ x. A.Under x A.unit) (sym e ∙ ap (cost A card) is) u)
+
 pub cut_to_chain : {A : Algebra} → Lawful A → CutToChain A
-cut_to_chain {A} L card calm s t n ms w =
-    let c = chain_of L card calm s ms t (cost A card (path s ms t)) n (to_runs L card s ms t w) in
-    let q = of_runs L card s c.0 t c.1 c.3 in
-    (c.0, (q.0, c.2), subst (λ y. AtMost A y (cost A card (path s ms t))) (sym q.1) c.4)
+cut_to_chain {A} L card calm s t fs ends w = go (cases_eq s t)
+  where
+    go : (s ≡ t) ⊎ (s ≡ t → ⊥) → (ks : List ℕ) × FromTo s t ks × Chain A card ks × AtMost A (cost A card ks) (cost A card fs)
+    go (inl e) = (
+      s ∷ [],
+      subst (λ v. FromTo s v (s ∷ [])) e (one_from s),
+      (tt, (tt, tt)),
+      (unit_is_least L card calm s).1 (cost A card fs) (fs, subst (λ v. FromTo s v fs) (sym e) ends, w, refl),
+    )
+    go (inr ne) =
+        let (ms, r) = cost_runs L card s t (cost A card fs) ne (fs, ends, w, refl) in
+        let c = chain_of L card calm s ms t (cost A card fs) ne r in
+        let q = of_runs L card s c.0 t c.1 c.3 in
+        (path s c.0 t, path_from s c.0 t, (q.0, c.2), subst (λ y. AtMost A y (cost A card fs)) (sym q.1) c.4)
 
 pub least_is_near : {A : Algebra} → Lawful A → LeastIsNear A
-least_is_near {A} L n card sound calm s t d x ((ms, w, f), least) =
-    let c = chain_of L card calm s ms t x d (subst (Runs A card s ms t) f (to_runs L card s ms t w)) in
-    let q = of_runs L card s c.0 t c.1 c.3 in
-    let e = at_most_both L c.1 x c.4 (least c.1 (c.0, q.0, q.1)) in
-    let i = runs_inside L card n sound s c.0 t c.1 c.3 in
-    let few = distinct_few n (path s c.0 t) (i.0, below_join n c.0 (t ∷ []) i.1 (i.2, tt)) c.2 in
-    let size = length-append c.0 (t ∷ []) in
-    let small = sound.small in
-    subst (λ y. A.Within (n - 1) y) e (L.within_more (suc (length c.0)) (n - 1) c.1 (omega arith) (omega arith) (runs_within L card n sound s c.0 t c.1 (omega arith) c.3))
+least_is_near {A} L n card sound calm s t x least = go (cases_eq s t)
+  where
+    go : (s ≡ t) ⊎ (s ≡ t → ⊥) → A.Within (n - 1) x
+    go (inl e) =
+        let small = sound.small in
+        let same = least_unique L (WalkCosts A card s s) (Some A.unit) (Some x) (unit_is_least L card calm s) (subst (λ v. Least A card s v (Some x)) (sym e) least) in
+        let is : A.unit ≡ x = cc in
+        subst (A.Within (n - 1)) is (L.within_more 0 (n - 1) A.unit (omega arith) (omega arith) L.unit_within)
+    go (inr ne) =
+        let r = cost_runs L card s t x ne least.0 in
+        let c = chain_of L card calm s r.0 t x ne r.1 in
+        let e = at_most_both L c.1 x c.4 (least.1 c.1 (runs_cost L card s c.0 t c.1 c.3)) in
+        let i = runs_inside L card n sound s c.0 t c.1 c.3 in
+        let few = distinct_few n (path s c.0 t) (i.0, below_join n c.0 (t ∷ []) i.1 (i.2, tt)) c.2 in
+        let size = length-append c.0 (t ∷ []) in
+        let small = sound.small in
+        subst (λ y. A.Within (n - 1) y) e (L.within_more (suc (length c.0)) (n - 1) c.1 (omega arith) (omega arith) (runs_within L card n sound s c.0 t c.1 (omega arith) c.3))

@@ -5,7 +5,7 @@ use Rattle.costs.specs.Algebra.{Algebra, Lawful}
 use Rattle.walks.specs.Walk.{path, Below, Absent, Distinct, LeastOf, WalkCosts, LowWalkCosts, Least, LowLeast, GainsAt}
 use Rattle.walks.specs.Theorems.{Sound}
 use Rattle.walks.specs.Levels.{ByWay, NoLoopBelow}
-use Rattle.walks.proofs.Runs.{Runs, to_runs, of_runs, runs_join, runs_split}
+use Rattle.walks.proofs.Runs.{Runs, runs_cost, cost_runs, runs_join, runs_split}
 use Rattle.walks.proofs.Least.{AtMost, Serves, Covers, at_most_self, at_most_trans, at_most_joined, drop_back, least_has, least_serves, least_made, least_cover}
 use Rattle.walks.proofs.Fold.{Low, Calm, Passes, to_low, of_low, to_least_low, of_least_low, calm_at, low_mono, low_join, pass}
 use Rattle.walks.proofs.Loops.{runs_inside, no_hidden_loop}
@@ -23,12 +23,6 @@ first_high m (k ∷ ks) = go (cases_lt m k) (first_high m ks)
     go (inr l) (inr (is, r, js, b, m, e)) = inr (k ∷ is, r, js, (omega arith, b), m, ap (λ l. k ∷ l) e)
 
 module _ {A : Algebra} (L : Lawful A) (card : ℕ → ℕ → Option A.Value) where
-  to_walk : (s t : ℕ) (x : A.Value) → WalkCosts A card s t x → (ms : List ℕ) × Runs A card s ms t x
-  to_walk s t x w = (w.0, subst (Runs A card s w.0 t) w.2 (to_runs L card s w.0 t w.1))
-
-  of_walk : (s : ℕ) (ms : List ℕ) (t : ℕ) (x : A.Value) → Runs A card s ms t x → WalkCosts A card s t x
-  of_walk s ms t x r = (ms, (of_runs L card s ms t x r).0, (of_runs L card s ms t x r).1)
-
   -- a walk that passes its own end inside is covered by one that does not
   skip_end : (s t : ℕ) → (GainsAt A card t → ⊥) → (x : A.Value) → Low A card (suc t) s t x → Covers A (Low A card t s t) x
   skip_end s t g x w = go (pass L card t calm s w.0 t x w.1 w.2)
@@ -118,12 +112,12 @@ module _ {A : Algebra} (L : Lawful A) (card : ℕ → ℕ → Option A.Value) wh
         low_walk t x w = let p = to_low L card v v t x w in (p.0, p.2)
 
         into : (x : A.Value) → ByWay A o to on goal (v + 1) n x → WalkCosts A card v goal x
-        into x (inl e) = let p = low_walk goal x (least_has L (LowWalkCosts A card v v goal) o x lo e) in of_walk v p.0 goal x p.1
+        into x (inl e) = let p = low_walk goal x (least_has L (LowWalkCosts A card v v goal) o x lo e) in runs_cost L card v p.0 goal x p.1
         into x (inr (j, l, m, ne, (a, b, e, f, g))) =
             let known = way j (omega arith) m ne in
             let p = low_walk j a (least_has L (LowWalkCosts A card v v j) (to j) a known.0 e) in
-            let q = to_walk j goal b (least_has L (WalkCosts A card j goal) (on j) b known.1 f) in
-            of_walk v (p.0 ++ j ∷ q.0) goal x (subst (Runs A card v (p.0 ++ j ∷ q.0) goal) (sym g) (runs_join L card v p.0 j q.0 goal a b p.1 q.1))
+            let q = cost_runs L card j goal b ne (least_has L (WalkCosts A card j goal) (on j) b known.1 f) in
+            runs_cost L card v (p.0 ++ j ∷ q.0) goal x (subst (Runs A card v (p.0 ++ j ∷ q.0) goal) (sym g) (runs_join L card v p.0 j q.0 goal a b p.1 q.1))
 
         split : (ks : List ℕ) (z y : A.Value) → Distinct (path v ks goal) → Runs A card v ks goal z → AtMost A z y →
             Below (suc v) ks ⊎ ((is : List ℕ) × (r : ℕ) × (js : List ℕ) × Below (suc v) is × (v < r) × (ks ≡ is ++ r ∷ js)) → Covers A (ByWay A o to on goal (v + 1) n) y
@@ -138,10 +132,10 @@ module _ {A : Algebra} (L : Lawful A) (card : ℕ → ℕ → Option A.Value) wh
             let known = way r l inside (λ f. other (sym f)) in
             by_way o to on goal (v + 1) n r cut.0 cut.1 y (omega arith) inside (λ f. other (sym f))
             (least_serves L (LowWalkCosts A card v v r) (to r) known.0 cut.0 (of_low L card v v r cut.0 (is, low, cut.2)))
-            (least_serves L (WalkCosts A card r goal) (on r) known.1 cut.1 (of_walk r js goal cut.1 cut.3)) (subst (λ x. AtMost A x y) cut.4 u)
+            (least_serves L (WalkCosts A card r goal) (on r) known.1 cut.1 (runs_cost L card r js goal cut.1 cut.3)) (subst (λ x. AtMost A x y) cut.4 u)
 
         cover : (y : A.Value) → WalkCosts A card v goal y → Covers A (ByWay A o to on goal (v + 1) n) y
         cover y w =
-            let p = to_walk v goal y w in
+            let p = cost_runs L card v goal y apart w in
             let c = chain_of L card (no_hidden_loop L n card sound calm) v p.0 goal y apart p.1 in
             split c.0 c.1 y c.2 c.3 c.4 (first_high v c.0)

@@ -5,7 +5,9 @@ use Rattle.std.proofs.lemmas.Bool.{cases_lt, cases_eq, cases_Bool, both_ways}
 use Rattle.costs.specs.Algebra.{Algebra, Lawful}
 use Rattle.walks.specs.Walk.{LeastOf, WalkCosts, Least, Gains, Tight}
 use Rattle.walks.specs.Theorems.{Sound, TreeReaches}
-use Rattle.walks.proofs.Runs.{Runs, to_runs, of_runs, runs_join, join_unit}
+use Rattle.walks.proofs.Runs.{Runs, of_runs, runs_cost, cost_runs, runs_join, join_unit}
+use Rattle.walks.proofs.Cut.{unit_is_least}
+use Rattle.walks.proofs.Least.{least_serves, least_unique}
 
 -- A transitive relation that leads from no number to itself, and from each number that it leads to further on, cannot stay
 -- below n: one may always step past the greatest number, and so lower the bound.
@@ -43,7 +45,7 @@ module _ {A : Algebra} (L : Lawful A) where
       go (inr (inr k)) = absurd (h k)
 
 module _ {A : Algebra} (L : Lawful A) (n : ℕ) (card : ℕ → ℕ → Option A.Value) (sound : Sound A n card) (gainless : Gains A card → ⊥)
-    (t : ℕ) (d : ℕ → Option A.Value) (at_t : d t ≡ Some A.unit) (least : (v : ℕ) → (v ≡ t → ⊥) → Least A card v t (d v))
+    (t : ℕ) (d : ℕ → Option A.Value) (least : (v : ℕ) → Least A card v t (d v))
     (tree : ℕ → Bool) (has_t : tree t ≡ true) (closed : (v w : ℕ) → tree w ≡ true → Tight A card d v w → tree v ≡ true) where
   no_gain : (h : ℕ) (ms : List ℕ) (p : A.Value) → Runs A card h ms h p → A.Under p A.unit → ⊥
   no_gain h ms p r u = let q = of_runs L card h ms h p r in gainless (h, ms, q.0, rw q.1 u)
@@ -51,11 +53,8 @@ module _ {A : Algebra} (L : Lawful A) (n : ℕ) (card : ℕ → ℕ → Option A
   not_self : (a : A.Value) → A.Under a a → ⊥
   not_self a u = L.not_equal a a u refl
 
-  walk_costs : (v : ℕ) (ms : List ℕ) (x : A.Value) → Runs A card v ms t x → WalkCosts A card v t x
-  walk_costs v ms x r = let q = of_runs L card v ms t x r in (ms, q.0, q.1)
-
-  runs_of : (v : ℕ) (x : A.Value) → WalkCosts A card v t x → (ms : List ℕ) × Runs A card v ms t x
-  runs_of v x k = (k.0, rw k.2 at (to_runs L card v k.0 t k.1))
+  at_t : d t ≡ Some A.unit
+  at_t = least_unique L (WalkCosts A card t t) (d t) (Some A.unit) (least t) (unit_is_least L card gainless t)
 
   outside : (u : ℕ) → tree u ≡ false → u ≡ t → ⊥
   outside u o e = both_ways (tree u) o (rw e has_t)
@@ -65,15 +64,7 @@ module _ {A : Algebra} (L : Lawful A) (n : ℕ) (card : ℕ → ℕ → Option A
   Onward v b = (z : A.Value) × (d v ≡ Some z) × (A.Under b z → ⊥)
 
   onward : (v : ℕ) (ms : List ℕ) (b : A.Value) → Runs A card v ms t b → Onward v b
-  onward v ms b r = split (cases_eq v t)
-    where
-      at : (o : Option A.Value) → d v ≡ o → LeastOf A (WalkCosts A card v t) o → Onward v b
-      at None e l = absurd (l b (walk_costs v ms b r))
-      at (Some z) e l = (z, e, l.1 b (walk_costs v ms b r))
-
-      split : (v ≡ t) ⊎ (v ≡ t → ⊥) → Onward v b
-      split (inl e) = (A.unit, ap d e ∙ at_t, no_gain t ms b (rw e at r))
-      split (inr ne) = at (d v) refl (least v ne)
+  onward v ms b r = least_serves L (WalkCosts A card v t) (d v) (least v) b (runs_cost L card v ms t b r)
 
   -- a way of u into the tree: a card to a format of the tree, and on from there at the least cost, e in all
   abbrev Way : ℕ → A.Value → Type 0
@@ -84,8 +75,8 @@ module _ {A : Algebra} (L : Lawful A) (n : ℕ) (card : ℕ → ℕ → Option A
   way_runs u e (y, c, z, i, k, s, j) = split (cases_eq y t)
     where
       split : (y ≡ t) ⊎ (y ≡ t → ⊥) → (ms : List ℕ) × Runs A card u ms t e
-      split (inl q) = ([], let h = join_unit L card c in cc)
-      split (inr ne) = let q = runs_of y z (rw s at (least y ne)).0 in (y ∷ q.0, (c, z, k, q.1, j))
+      split (inl q) = ([], let h = join_unit L card c in let u = at_t in cc)
+      split (inr ne) = let q = cost_runs L card y t z ne (rw s at (least y)).0 in (y ∷ q.0, (c, z, k, q.1, j))
 
   -- a run of u to a format w outside the tree that has a way into it: p is the cost up to w, e the cost of that way
   record Over (u w : ℕ) : Type 0 where
@@ -126,7 +117,7 @@ module _ {A : Algebra} (L : Lawful A) (n : ℕ) (card : ℕ → ℕ → Option A
       go : A.Under x e ⊎ ((x ≡ e) ⊎ A.Under e x) → A.Under x e
       go (inl h) = h
       go (inr (inl q)) = absurd (both_ways (tree u) f (closed u way.0 way.3 (way.1, way.2, way.4, way.5, s ∙ ap Some (q ∙ way.6))))
-      go (inr (inr h)) = let r = way_runs u e way in absurd ((rw s at (least u (outside u f))).1 e (walk_costs u r.0 e r.1) h)
+      go (inr (inr h)) = let r = way_runs u e way in absurd ((rw s at (least u)).1 e (runs_cost L card u r.0 t e r.1) h)
 
   -- u goes on to w, and by the way of w undercuts every way of its own
   abbrev Beats : ℕ → ℕ → Type 0
@@ -141,7 +132,7 @@ module _ {A : Algebra} (L : Lawful A) (n : ℕ) (card : ℕ → ℕ → Option A
       by x s (inr (w, o, h)) = (w, (o, λ e way. under_from L (A.join o.p o.e) x e h (least_under_way u x f s e way)))
 
       from : Onward u b → (w : ℕ) × Beats u w
-      from (x, s, h) = let q = runs_of u x (rw s at (least u (outside u f))).0 in by x s (crossing u q.0 x q.1)
+      from (x, s, h) = let q = cost_runs L card u t x (outside u f) (rw s at (least u)).0 in by x s (crossing u q.0 x q.1)
 
   beats_trans : (u v w : ℕ) → Beats u v → Beats v w → Beats u w
   beats_trans u v w (o, h) (q, k) = (
@@ -169,7 +160,7 @@ module _ {A : Algebra} (L : Lawful A) (n : ℕ) (card : ℕ → ℕ → Option A
       split : (tree v ≡ true) ⊎ (tree v ≡ false) → tree v ≡ true
       split (inl i) = i
       split (inr f) =
-          let r = runs_of v x k in
+          let r = cost_runs L card v t x (outside v f) k in
           let (w, b) = beats v r.0 x f r.1 in
           absurd (no_climb n Beats (λ u w b. (sound.inside w b.0.way.0 _ b.0.way.4).0) beats_trans beats_other on v w b)
 

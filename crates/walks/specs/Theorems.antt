@@ -1,7 +1,7 @@
 -- What holds of walks over any cards, for every cost kind. A function of the crate has each as its contract.
 use Rattle.std.specs.Prelude.{◌≡◌, ℕ, suc, ◌+◌, ◌-◌, ◌*◌, ◌<◌, ◌≤◌, Bool, true, ◌⊎◌, List, Some, Option, ◌≢◌}
 use Rattle.costs.specs.Algebra.{Algebra, reach}
-use Rattle.walks.specs.Walk.{path, LeastOf, Walk, cost, Chain, WalkCosts, Least, LowLeast, Gains, GainsAt, Tight}
+use Rattle.walks.specs.Walk.{FromTo, LeastOf, Walk, cost, Chain, WalkCosts, Least, LowLeast, Gains, GainsAt, Tight}
 
 -- cards between different formats below n, each of an admitted cost
 pub record Sound (A : Algebra) (n : ℕ) (card : ℕ → ℕ → Option A.Value) : Type 0 where
@@ -40,17 +40,21 @@ module _ (A : Algebra) where
 
   -- Where no closed walk undercuts the unit, each walk can be cut to a chain that it does not undercut.
   abbrev pub CutToChain : Type 0
-  CutToChain = (card : ℕ → ℕ → Option A.Value) → (Gains A card → ⊥) → (s t : ℕ) → (s ≢ t) → (ms : List ℕ) → Walk A card (path s ms t) →
-      (ks : List ℕ) × Chain A card (path s ks t) × (A.Under (cost A card (path s ms t)) (cost A card (path s ks t)) → ⊥)
+  CutToChain = (card : ℕ → ℕ → Option A.Value) → (Gains A card → ⊥) → (s t : ℕ) (fs : List ℕ) → FromTo s t fs → Walk A card fs →
+      (ks : List ℕ) × FromTo s t ks × Chain A card ks × (A.Under (cost A card fs) (cost A card ks) → ⊥)
+
+  -- Where no closed walk undercuts the unit, the unit is the least cost from a format to itself.
+  abbrev pub UnitIsLeast : Type 0
+  UnitIsLeast = (card : ℕ → ℕ → Option A.Value) → (Gains A card → ⊥) → (s : ℕ) → Least A card s s (Some A.unit)
 
   -- Where no closed walk undercuts the unit, a least cost lies within one card less than there are formats.
   abbrev pub LeastIsNear : Type 0
-  LeastIsNear = (n : ℕ) (card : ℕ → ℕ → Option A.Value) → Sound A n card → (Gains A card → ⊥) → (s t : ℕ) → (s ≢ t) → (x : A.Value) →
+  LeastIsNear = (n : ℕ) (card : ℕ → ℕ → Option A.Value) → Sound A n card → (Gains A card → ⊥) → (s t : ℕ) (x : A.Value) →
       Least A card s t (Some x) → A.Within (n - 1) x
 
   -- The tree of tight cards: a set of formats that has t, and each format with a tight card into the set, has every format
   -- from which a walk leads to t.
   abbrev pub TreeReaches : Type 0
   TreeReaches = (n : ℕ) (card : ℕ → ℕ → Option A.Value) → Sound A n card → (Gains A card → ⊥) → (t : ℕ) (d : ℕ → Option A.Value) →
-      d t ≡ Some A.unit → ((v : ℕ) → (v ≢ t) → Least A card v t (d v)) → (tree : ℕ → Bool) → tree t ≡ true →
+      ((v : ℕ) → Least A card v t (d v)) → (tree : ℕ → Bool) → tree t ≡ true →
       ((v w : ℕ) → tree w ≡ true → Tight A card d v w → tree v ≡ true) → (v : ℕ) (x : A.Value) → WalkCosts A card v t x → tree v ≡ true

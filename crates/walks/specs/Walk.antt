@@ -8,6 +8,10 @@ use Rattle.costs.specs.Algebra.{Algebra}
 abbrev pub path : ℕ → List ℕ → ℕ → List ℕ
 path s ms t = s ∷ (ms ++ t ∷ [])
 
+-- the list begins with s and ends with t
+abbrev pub FromTo : ℕ → ℕ → List ℕ → Type 0
+FromTo s t fs = ((rest : List ℕ) × (fs ≡ s ∷ rest)) × ((front : List ℕ) × (fs ≡ front ++ t ∷ []))
+
 -- every format of the list is below h
 abbrev pub Below : ℕ → List ℕ → Type 0
 Below h [] = Unit {0}
@@ -29,14 +33,13 @@ LeastOf A P None = (x : A.Value) → P x → ⊥
 LeastOf A P (Some x) = P x × ((y : A.Value) → P y → A.Under y x → ⊥)
 
 module _ (A : Algebra) (card : ℕ → ℕ → Option A.Value) where
-  -- a walk: two or more formats, and a card for each neighbouring pair
+  -- a walk: one format or more, and a card for each neighbouring pair
   abbrev pub Walk : List ℕ → Type 0
   Walk [] = ⊥
-  Walk (a ∷ []) = ⊥
-  Walk (a ∷ b ∷ []) = is_some (card a b) ≡ true
-  Walk (a ∷ b ∷ c ∷ fs) = (is_some (card a b) ≡ true) × Walk (b ∷ c ∷ fs)
+  Walk (a ∷ []) = Unit {0}
+  Walk (a ∷ b ∷ fs) = (is_some (card a b) ≡ true) × Walk (b ∷ fs)
 
-  -- the cost of a walk: the combination of its cards' costs
+  -- the cost of a walk: the combination of its cards' costs, the unit where it has none
   abbrev pub cost : List ℕ → A.Value
   cost [] = A.unit
   cost (a ∷ []) = A.unit
@@ -52,9 +55,9 @@ module _ (A : Algebra) (card : ℕ → ℕ → Option A.Value) where
 
   -- some walk from s to t costs x
   abbrev pub WalkCosts : ℕ → ℕ → A.Value → Type 0
-  WalkCosts s t x = (ms : List ℕ) × Walk (path s ms t) × (cost (path s ms t) ≡ x)
+  WalkCosts s t x = (fs : List ℕ) × FromTo s t fs × Walk fs × (cost fs ≡ x)
 
-  -- some walk from s to t whose inner formats are below h costs x
+  -- some walk of two formats or more from s to t, whose inner formats are below h, costs x
   abbrev pub LowWalkCosts : ℕ → ℕ → ℕ → A.Value → Type 0
   LowWalkCosts h s t x = (ms : List ℕ) × Below h ms × Walk (path s ms t) × (cost (path s ms t) ≡ x)
 
@@ -62,11 +65,11 @@ module _ (A : Algebra) (card : ℕ → ℕ → Option A.Value) where
   abbrev pub Least : ℕ → ℕ → Option A.Value → Type 0
   Least s t o = LeastOf A (WalkCosts s t) o
 
-  -- o is the least cost over walks from s to t whose inner formats are below h
+  -- o is the least cost over walks of two formats or more from s to t, whose inner formats are below h
   abbrev pub LowLeast : ℕ → ℕ → ℕ → Option A.Value → Type 0
   LowLeast h s t o = LeastOf A (LowWalkCosts h s t) o
 
-  -- some closed walk undercuts the unit
+  -- some closed walk, of a card or more, undercuts the unit
   abbrev pub Gains : Type 0
   Gains = (h : ℕ) × (ms : List ℕ) × Walk (path h ms h) × A.Under (cost (path h ms h)) A.unit
 

@@ -1,10 +1,10 @@
 -- The worked cases hold. That no walk costs less is shown by a height for each format: no card costs less than it rises.
 -- That a rule holds of every card is a test over the list of cards, or over the places of the table.
-use Rattle.std.proofs.Common.{◌≡◌, ℕ, zero, suc, ◌<◌, ◌≤◌, min, Bool, true, false, cond, not, ◌&&◌, ◌||◌, T, eqb, ltb, leb, List, [], ◌∷◌, get_or, ℤ, pos, negsuc, ◌+ℤ◌, ◌≤ℤ◌, ◌<ℤ◌, is_some, Some, None, Option, unwrap_or, sym, refl, ap, ◌∙◌, subst, subst₂, ⊎_elim, arith}
+use Rattle.std.proofs.Common.{◌≡◌, ℕ, zero, suc, ◌<◌, ◌≤◌, min, Bool, true, false, cond, not, ◌&&◌, ◌||◌, T, eqb, ltb, leb, ◌⊎◌, List, [], ◌∷◌, get_or, ℤ, pos, negsuc, ◌+ℤ◌, ◌≤ℤ◌, ◌<ℤ◌, is_some, Some, None, Option, unwrap_or, sym, refl, ap, ◌∙◌, subst, subst₂, inl, inr, ⊎_elim, arith}
 use lib.Signed.{le_z}
 use Rattle.std.proofs.lemmas.Int.{ints}
 use Rattle.std.proofs.lemmas.Bool.{false≢true, and_parts, eqb-true, leb-true, ltb-true, eq-eqb, cases_eq}
-use Rattle.costs.specs.DepthLaws.{same_bits}
+use Rattle.costs.specs.DepthLaws.{depth_lawful, same_bits}
 use Rattle.costs.specs.Algebra.{Algebra}
 use Rattle.costs.specs.Kinds.{delays}
 use Rattle.costs.specs.Delay.{delay}
@@ -14,8 +14,10 @@ use Rattle.registers.specs.House.{house}
 use Rattle.registers.specs.Bar.{barred}
 use Rattle.registers.proofs.Views.{open_standing}
 use Rattle.costs.specs.DelayLaws.{delay_lawful}
-use Rattle.walks.specs.Walk.{path, Walk, cost, WalkCosts, Least, Gains}
+use Rattle.walks.specs.Walk.{path, FromTo, Walk, cost, WalkCosts, Least, Gains}
 use Rattle.walks.proofs.Backwards.{gains_back, least_back}
+use Rattle.walks.proofs.Cut.{unit_is_least}
+use Rattle.walks.proofs.Runs.{one_or_path, path_from, path_of}
 use Rattle.worked.specs.Walks.{cards_of, WorkedCases, even_ring, free_pair, open_house, barred_house, reversed_house, deeper_way}
 
 -- a test of a card that stands
@@ -77,6 +79,9 @@ sum_step a b c x y p q = omega (arith, ints)
 sum_last : (a b x : ℤ) → b ≤ℤ (a +ℤ x) → b ≤ℤ (a +ℤ (x +ℤ pos 0))
 sum_last a b x p = omega (arith, ints)
 
+sum_none : (a b x : ℤ) → a ≡ b → x ≡ pos 0 → b ≤ℤ (a +ℤ x)
+sum_none a b x e z = omega (arith, ints)
+
 never_below : (a x : ℤ) → a ≤ℤ (a +ℤ x) → x <ℤ pos 0 → ⊥
 never_below a x p q = omega (arith, ints)
 
@@ -88,18 +93,23 @@ module _ (card : ℕ → ℕ → Option ℤ) (height : ℕ → ℤ) (rises : Pas
   card_rises a b h = record { le = subst T (sym (passes_value (λ c. le_z (height b) (height a +ℤ c)) (card a b) (pos 0) (rises a b) h)) tt }
 
   walk_rises : (s : ℕ) (ms : List ℕ) (t : ℕ) → Walk delay card (path s ms t) → height t ≤ℤ (height s +ℤ cost delay card (path s ms t))
-  walk_rises s [] t w = sum_last (height s) (height t) (unwrap_or (card s t) (pos 0)) (card_rises s t w)
-  walk_rises s (m ∷ []) t w =
-      sum_step (height s) (height m) (height t) (unwrap_or (card s m) (pos 0)) (cost delay card (path m [] t)) (card_rises s m w.0) (walk_rises m [] t w.1)
-  walk_rises s (m ∷ k ∷ ms) t w =
-      sum_step (height s) (height m) (height t) (unwrap_or (card s m) (pos 0)) (cost delay card (path m (k ∷ ms) t)) (card_rises s m w.0) (walk_rises m (k ∷ ms) t w.1)
+  walk_rises s [] t w = sum_last (height s) (height t) (unwrap_or (card s t) (pos 0)) (card_rises s t w.0)
+  walk_rises s (m ∷ ms) t w =
+      sum_step (height s) (height m) (height t) (unwrap_or (card s m) (pos 0)) (cost delay card (path m ms t)) (card_rises s m w.0) (walk_rises m ms t w.1)
+
+  costs_rise : (s t : ℕ) (x : ℤ) → WalkCosts delay card s t x → height t ≤ℤ (height s +ℤ x)
+  costs_rise s t x (fs, ends, w, e) = go (one_or_path s t fs ends)
+    where
+      go : ((s ≡ t) × (fs ≡ s ∷ [])) ⊎ ((ms : List ℕ) × (fs ≡ path s ms t)) → height t ≤ℤ (height s +ℤ x)
+      go (inl (same, is)) = sum_none (height s) (height t) x (ap height same) (sym e ∙ ap (cost delay card) is)
+      go (inr (ms, is)) = subst (λ z. height t ≤ℤ (height s +ℤ z)) (ap (cost delay card) (sym is) ∙ e) (walk_rises s ms t (rw is at w))
 
   pub no_gain : Gains delay card → ⊥
   no_gain g = never_below (height g.0) (cost delay card (path g.0 g.1 g.0)) (walk_rises g.0 g.1 g.0 g.2) g.3
 
   least_by_heights : (s t : ℕ) (x : ℤ) → WalkCosts delay card s t x → height t ≡ height s +ℤ x → Least delay card s t (Some x)
   least_by_heights s t x w e =
-      (w, λ y q. never_less (height s) (height t) x y (subst (λ z. height t ≤ℤ (height s +ℤ z)) q.2 (walk_rises s q.0 t q.1)) e)
+      (w, λ y q. never_less (height s) (height t) x y (costs_rise s t y q) e)
 
 -- the heights of a list, format by format
 abbrev pub heights : List ℤ → ℕ → ℤ
@@ -115,12 +125,15 @@ module _ (A : Algebra) (card : ℕ → ℕ → Option A.Value) (inside : ℕ →
   card_stays a b h = implied (inside a) (inside b) (passes_value (λ c. not (inside a) || inside b) (card a b) A.unit (kept a b) h)
 
   walk_stays : (s : ℕ) (ms : List ℕ) (t : ℕ) → Walk A card (path s ms t) → inside s ≡ true → inside t ≡ true
-  walk_stays s [] t w i = card_stays s t w i
-  walk_stays s (m ∷ []) t w i = walk_stays m [] t w.1 (card_stays s m w.0 i)
-  walk_stays s (m ∷ k ∷ ms) t w i = walk_stays m (k ∷ ms) t w.1 (card_stays s m w.0 i)
+  walk_stays s [] t w i = card_stays s t w.0 i
+  walk_stays s (m ∷ ms) t w i = walk_stays m ms t w.1 (card_stays s m w.0 i)
 
   no_walk : (s t : ℕ) → inside s ≡ true → inside t ≡ false → Least A card s t None
-  no_walk s t i o x q = false≢true (sym o ∙ walk_stays s q.0 t q.1 i)
+  no_walk s t i o x (fs, ends, w, e) = go (one_or_path s t fs ends)
+    where
+      go : ((s ≡ t) × (fs ≡ s ∷ [])) ⊎ ((ms : List ℕ) × (fs ≡ path s ms t)) → ⊥
+      go (inl (same, is)) = false≢true (sym o ∙ ap inside (sym same) ∙ i)
+      go (inr (ms, is)) = false≢true (sym o ∙ walk_stays s ms t (rw is at w) i)
 
 -- a walk keeps at most the bits of its last card
 fewer_first : (a b n : ℕ) → a ≤ n → min a b ≤ n
@@ -135,12 +148,16 @@ module _ (card : ℕ → ℕ → Option Bits) (t n : ℕ) (few : Pass card (λ a
       leb-true _ n (implied (eqb t t) _ (passes_value (λ c. not (eqb t t) || leb c.count n) (card a t) (bits deepest) (few a t) h) (eq-eqb t t refl))
 
   walk_keeps : (s : ℕ) (ms : List ℕ) → Walk depth card (path s ms t) → (cost depth card (path s ms t)).count ≤ n
-  walk_keeps s [] w = fewer_first _ _ n (card_keeps s w)
-  walk_keeps s (m ∷ []) w = fewer_second _ _ n (walk_keeps m [] w.1)
-  walk_keeps s (m ∷ k ∷ ms) w = fewer_second _ _ n (walk_keeps m (k ∷ ms) w.1)
+  walk_keeps s [] w = fewer_first _ _ n (card_keeps s w.0)
+  walk_keeps s (m ∷ ms) w = fewer_second _ _ n (walk_keeps m ms w.1)
 
-  least_by_last : (s : ℕ) (x : Bits) → WalkCosts depth card s t x → x.count ≡ n → Least depth card s t (Some x)
-  least_by_last s x w e = (w, λ y q u. omega (arith, walk_keeps s q.0 q.1, ap (λ (z : Bits). z.count) q.2))
+  costs_keep : (s : ℕ) (x : Bits) → (s ≡ t → ⊥) → WalkCosts depth card s t x → x.count ≤ n
+  costs_keep s x ne (fs, ends, w, e) =
+      let (ms, is) = path_of s t fs ne ends in
+      subst (λ (z : Bits). z.count ≤ n) (ap (cost depth card) (sym is) ∙ e) (walk_keeps s ms (rw is at w))
+
+  least_by_last : (s : ℕ) (x : Bits) → (s ≡ t → ⊥) → WalkCosts depth card s t x → x.count ≡ n → Least depth card s t (Some x)
+  least_by_last s x ne w e = (w, λ y q u. omega (arith, costs_keep s y ne q))
 
 -- heights for each set of cards with no gain; those of the house are the least costs from 4
 abbrev ring_heights : ℕ → ℤ
@@ -193,26 +210,31 @@ depth_few : Pass (cards_of deeper_way) (λ a b c. not (eqb b 2) || leb c.count 8
 depth_few = list_passes (λ a b c. not (eqb b 2) || leb c.count 8) deeper_way refl
 
 house_4_2 : Least delay open_house 4 2 (Some (negsuc 1))
-house_4_2 = least_by_heights open_house house_heights house_rises 4 2 (negsuc 1) (3 ∷ 0 ∷ [], (refl, (refl, refl)), refl) refl
+house_4_2 = least_by_heights open_house house_heights house_rises 4 2 (negsuc 1) (path 4 (3 ∷ 0 ∷ []) 2, path_from 4 (3 ∷ 0 ∷ []) 2, (refl, (refl, (refl, tt))), refl) refl
 
 pub worked_cases : WorkedCases
 worked_cases = record {
-  ring_gains = (0, 1 ∷ 2 ∷ [], (refl, (refl, refl)), record { lt = tt });
+  ring_gains = (0, 1 ∷ 2 ∷ [], (refl, (refl, (refl, tt))), record { lt = tt });
   ring_is_even = no_gain (cards_of even_ring) ring_heights ring_rises;
   pair_is_even = no_gain (cards_of free_pair) pair_heights pair_rises;
-  pair_from_0 = least_by_heights (cards_of free_pair) pair_heights pair_rises 0 2 (pos 5) ([], refl, refl) refl;
-  pair_from_1 = least_by_heights (cards_of free_pair) pair_heights pair_rises 1 2 (pos 5) (0 ∷ [], (refl, refl), refl) refl;
-  elsewhere_gains = (2, 3 ∷ [], (refl, refl), record { lt = tt });
+  pair_from_0 = least_by_heights (cards_of free_pair) pair_heights pair_rises 0 2 (pos 5) (path 0 [] 2, path_from 0 [] 2, (refl, tt), refl) refl;
+  pair_from_1 = least_by_heights (cards_of free_pair) pair_heights pair_rises 1 2 (pos 5) (path 1 (0 ∷ []) 2, path_from 1 (0 ∷ []) 2, (refl, (refl, tt)), refl) refl;
+  elsewhere_gains = (2, 3 ∷ [], (refl, (refl, tt)), record { lt = tt });
   house_is_even = no_gain open_house house_heights house_rises;
   house_4_2 = house_4_2;
-  house_chain_4_2 = (((refl, (refl, refl)), omega arith), refl);
-  house_4_6 = least_by_heights open_house house_heights house_rises 4 6 (pos 4) (3 ∷ 0 ∷ [], (refl, (refl, refl)), refl) refl;
-  house_chain_4_6 = (((refl, (refl, refl)), omega arith), refl);
-  house_other_4_6 = (((refl, (refl, (refl, refl))), omega arith), refl);
+  house_chain_4_2 = (((refl, (refl, (refl, tt))), omega arith), refl);
+  house_4_6 = least_by_heights open_house house_heights house_rises 4 6 (pos 4) (path 4 (3 ∷ 0 ∷ []) 6, path_from 4 (3 ∷ 0 ∷ []) 6, (refl, (refl, (refl, tt))), refl) refl;
+  house_chain_4_6 = (((refl, (refl, (refl, tt))), omega arith), refl);
+  house_other_4_6 = (((refl, (refl, (refl, (refl, tt)))), omega arith), refl);
   reversed_2_4 = least_back delay_lawful open_house reversed_house turned 4 2 (Some (negsuc 1)) house_4_2;
-  reversed_chain_2_4 = (((refl, (refl, refl)), omega arith), refl);
+  reversed_chain_2_4 = (((refl, (refl, (refl, tt))), omega arith), refl);
   barred_4_2 = no_walk delay barred_house elsewhere barred_kept 4 2 refl refl;
-  barred_4_6 = least_by_heights barred_house house_heights barred_rises 4 6 (pos 4) (3 ∷ 5 ∷ 1 ∷ [], (refl, (refl, (refl, refl))), refl) refl;
-  barred_chain_4_6 = (((refl, (refl, (refl, refl))), omega arith), refl);
-  depth_0_2 = least_by_last (cards_of deeper_way) 2 8 depth_few 0 (bits 8) (1 ∷ [], (refl, refl), same_bits _ _ refl) refl;
+  barred_4_6 = least_by_heights barred_house house_heights barred_rises 4 6 (pos 4) (path 4 (3 ∷ 5 ∷ 1 ∷ []) 6, path_from 4 (3 ∷ 5 ∷ 1 ∷ []) 6, (refl, (refl, (refl, (refl, tt)))), refl) refl;
+  barred_chain_4_6 = (((refl, (refl, (refl, (refl, tt)))), omega arith), refl);
+  pair_chain_0_0 = ((tt, (tt, tt)), refl);
+  pair_0_0 = unit_is_least delay_lawful (cards_of free_pair) (no_gain (cards_of free_pair) pair_heights pair_rises) 0;
+  ring_0_0 = λ least. least.1 (negsuc 0) (path 0 (1 ∷ 2 ∷ []) 0, path_from 0 (1 ∷ 2 ∷ []) 0, (refl, (refl, (refl, tt))), refl) (record { lt = tt });
+  depth_chain_2_2 = ((tt, (tt, tt)), same_bits _ _ refl);
+  depth_2_2 = subst (λ x. Least depth (cards_of deeper_way) 2 2 (Some x)) (same_bits _ _ refl) (unit_is_least depth_lawful (cards_of deeper_way) (depth_is_even (cards_of deeper_way)) 2);
+  depth_0_2 = least_by_last (cards_of deeper_way) 2 8 depth_few 0 (bits 8) (λ e. omega arith) (path 0 (1 ∷ []) 2, path_from 0 (1 ∷ []) 2, (refl, (refl, tt)), same_bits _ _ refl) refl;
 }

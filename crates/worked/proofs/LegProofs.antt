@@ -14,7 +14,7 @@ use Rattle.costs.specs.declared.Cost.{Ghosts as Kind}
 use Rattle.costs.specs.Algebra.{Algebra}
 use Rattle.costs.specs.Kinds.{delays, depths}
 use Rattle.registers.specs.Meaning.{Meaning, IsSize, possible, standing}
-use Rattle.walks.specs.Walk.{path, Walk, cost, Chain, Gains}
+use Rattle.walks.specs.Walk.{path, FromTo, Walk, cost, Chain, Gains}
 use Rattle.bay.specs.Plain.{Plain}
 use Rattle.bay.specs.Reversal.{RouteMade}
 use Rattle.bay.specs.Routes.{HasNoChain, HasLeastChain, no_ends}
@@ -22,6 +22,7 @@ use Rattle.bay.specs.Routing.{RouteAnswer, LeastChainsIn}
 use Rattle.bay.specs.Sheet.{row_at, row_of}
 use Rattle.bay.specs.declared.fault.BayFault.TheVariants.{Loop}
 use Rattle.bay.specs.declared.legs.Ends.{Ends}
+use Rattle.walks.proofs.Runs.{one_from, one_or_path, path_from}
 use Rattle.bay.proofs.BothWays.{looped_gains}
 use Rattle.worked.specs.Walks.{cards_of}
 use Rattle.worked.specs.Routes.{LegCase, by_chains, chainless, LegAs, GrantedAs, Stand, AlwaysRefused, AlwaysGranted}
@@ -64,9 +65,16 @@ abbrev pub depth_test : Tested depths
 depth_test = record { some = record { bits = 0 }; under = λ x y. ltb y.count x.count; undercuts = λ x y e. ltb-true y.count x.count e }
 
 walk_leads : (A : Algebra) (card : ℕ → ℕ → Option A.Value) (s : ℕ) (ms : List ℕ) (t : ℕ) → Walk A card (path s ms t) → LeadOn card s (ms ++ t ∷ []) t
-walk_leads A card s [] t w = (w, refl)
-walk_leads A card s (m ∷ []) t w = (w.0, walk_leads A card m [] t w.1)
-walk_leads A card s (m ∷ k ∷ ms) t w = (w.0, walk_leads A card m (k ∷ ms) t w.1)
+walk_leads A card s [] t w = (w.0, refl)
+walk_leads A card s (m ∷ ms) t w = (w.0, walk_leads A card m ms t w.1)
+
+-- a walk goes on from its first format to its last
+walk_goes_on : (A : Algebra) (card : ℕ → ℕ → Option A.Value) (s t : ℕ) (fs : List ℕ) → FromTo s t fs → Walk A card fs → (gs : List ℕ) × (fs ≡ s ∷ gs) × LeadOn card s gs t
+walk_goes_on A card s t fs ends w = go (one_or_path s t fs ends)
+  where
+    go : ((s ≡ t) × (fs ≡ s ∷ [])) ⊎ ((ms : List ℕ) × (fs ≡ path s ms t)) → (gs : List ℕ) × (fs ≡ s ∷ gs) × LeadOn card s gs t
+    go (inl (same, is)) = ([], is, same)
+    go (inr (ms, is)) = (ms ++ t ∷ [], is, walk_leads A card s ms t (rw is at w))
 
 off_none : (fs : List ℕ) → Off [] fs
 off_none [] = tt
@@ -91,13 +99,14 @@ module _ {A : Algebra} (s : CardSet A) where
   abbrev pub every_chain_from : ℕ → ℕ → (List ℕ → Bool) → Bool
   every_chain_from a b test = every_chain s.card s.size s.size [] a b test
 
-  chain_passes : (a b : ℕ) (test : List ℕ → Bool) → every_chain_from a b test ≡ true → (ms : List ℕ) → Chain A s.card (path a ms b) → test (path a ms b) ≡ true
-  chain_passes a b test h ms c =
-      every_chain_at s.card s.size s.inside s.size [] a b test h (ms ++ b ∷ []) (walk_leads A s.card a ms b c.0) c.1 (off_none (path a ms b))
+  chain_passes : (a b : ℕ) (test : List ℕ → Bool) → every_chain_from a b test ≡ true → (fs : List ℕ) → FromTo a b fs → Chain A s.card fs → test fs ≡ true
+  chain_passes a b test h fs ends c =
+      let (gs, is, leads) = walk_goes_on A s.card a b fs ends c.0 in
+      subst (λ fs. test fs ≡ true) (sym is) (every_chain_at s.card s.size s.inside s.size [] a b test h gs leads (rw is at c.1) (off_none (a ∷ gs)))
 
   pub no_chain_is : (a b : ℕ) → every_chain_from a b (λ fs. false) ≡ true → IsCase (chainless A a b)
   no_chain_is a b h row paid (inl u) = (u.costs, (0, omega arith, sym u.row_is))
-  no_chain_is a b h row paid (inr r) = absurd (false≢true (chain_passes a b (λ fs. false) h r.inner r.chain))
+  no_chain_is a b h row paid (inr r) = absurd (false≢true (chain_passes a b (λ fs. false) h r.formats r.from_to r.chain))
 
   -- no chain leads from a to b
   abbrev pub no_chain : (a b : ℕ) → every_chain_from a b (λ fs. false) ≡ true → ProvedCase
@@ -108,29 +117,38 @@ module _ {C : Type 0} {K : Kind C} (t : Tested K) (s : CardSet K.algebra) where
   abbrev pub told_or_worse : K.algebra.Value → List (List ℕ) → List ℕ → Bool
   told_or_worse x rows fs = list_any (bytes_eq fs) rows || t.under x (cost K.algebra s.card fs)
 
-  -- the walk from a to b through ms, and other chains
-  module _ (a b : ℕ) (x : K.algebra.Value) (ms : List ℕ) (others : List (List ℕ)) where
+  -- a walk from a to b, and other chains
+  module _ (a b : ℕ) (x : K.algebra.Value) (gs : List ℕ) (ends : FromTo a b gs) (others : List (List ℕ)) where
     abbrev rows : List (List ℕ)
-    rows = path a ms b ∷ others
+    rows = gs ∷ others
 
     abbrev CostsX : List ℕ → Type 0
     CostsX fs = cost K.algebra s.card fs ≡ x
 
-    module _ (walk : Walk K.algebra s.card (path a ms b)) (costs : AllByRecursion CostsX rows) (each : every_chain_from s a b (told_or_worse x rows) ≡ true) where
+    module _ (walk : Walk K.algebra s.card gs) (costs : AllByRecursion CostsX rows) (each : every_chain_from s a b (told_or_worse x rows) ≡ true) where
       pub least_chains_are : IsCase s (by_chains a b x rows)
-      least_chains_are row paid (inl u) = absurd (u.no_walk ms walk)
+      least_chains_are row paid (inl u) = absurd (u.no_walk gs ends walk)
       least_chains_are row paid (inr r) =
-          let fs : List ℕ = path a r.inner b in
-          elim (or_cases _ _ (chain_passes s a b (told_or_worse x rows) each r.inner r.chain)) [
+          let fs : List ℕ = r.formats in
+          elim (or_cases _ _ (chain_passes s a b (told_or_worse x rows) each r.formats r.from_to r.chain)) [
             | inl e ↦
                 let told : Contains rows fs = Contains-from_any {eq = bytes_eq} (λ xs ys same. same_text xs ys (sym same)) fs rows e in
                 (r.costs ∙ All-contains CostsX rows fs (All-from_recursion CostsX rows costs) told, subst (Contains (map row_of rows)) (sym r.row_is) (contains_map row_of rows fs told))
-            | inr e ↦ absurd (r.least ms walk (subst₂ K.algebra.Under (sym costs.0) (sym r.costs) (t.undercuts x (cost K.algebra s.card fs) e)))
+            | inr e ↦ absurd (r.least gs ends walk (subst₂ K.algebra.Under (sym costs.0) (sym r.costs) (t.undercuts x (cost K.algebra s.card fs) e)))
           ]
 
       -- from a to b the walk and the other chains cost x, and each further chain costs more
-      abbrev pub least_chains : ProvedCase s
-      least_chains = (by_chains a b x rows, least_chains_are)
+      abbrev pub least_by : ProvedCase s
+      least_by = (by_chains a b x rows, least_chains_are)
+
+  -- the walk from a to b goes through ms
+  abbrev pub least_chains : (a b : ℕ) (x : K.algebra.Value) (ms : List ℕ) (others : List (List ℕ)) → Walk K.algebra s.card (path a ms b) →
+      AllByRecursion (λ fs. cost K.algebra s.card fs ≡ x) (path a ms b ∷ others) → every_chain_from s a b (told_or_worse x (path a ms b ∷ others)) ≡ true → ProvedCase s
+  least_chains a b x ms others = least_by a b x (path a ms b) (path_from a ms b) others
+
+  -- it is the format alone
+  abbrev pub stays : (a : ℕ) (x : K.algebra.Value) → K.algebra.unit ≡ x → every_chain_from s a a (told_or_worse x ((a ∷ []) ∷ [])) ≡ true → ProvedCase s
+  stays a x e = least_by a a x (a ∷ []) (one_from a) [] tt (e, tt)
 
 -- a route over the cards
 module _ {C : Type 0} (K : Kind C) (s : CardSet K.algebra) where

@@ -12,7 +12,7 @@ use Rattle.bay.specs.Plain.{from_to}
 use Rattle.worked.specs.Walks.{cards_of, gaining_ring, even_ring, free_pair, gain_elsewhere, deeper_way}
 use Rattle.worked.specs.Routes.{RouteCases}
 use Rattle.worked.proofs.CaseProofs.{worked_cases, barred_is_even, reversed_is_even, depth_is_even}
-use Rattle.worked.proofs.LegProofs.{CardSet, listed, held, delay_test, depth_test, always_refused, always_granted, least_chains, no_chain}
+use Rattle.worked.proofs.LegProofs.{CardSet, listed, held, delay_test, depth_test, always_refused, always_granted, least_chains, no_chain, stays}
 
 abbrev gaining_set : CardSet delay
 gaining_set = listed 3 (omega arith, omega arith) gaining_ring refl
@@ -41,19 +41,27 @@ reversed_set = held (meant delays (reversed house)) (omega arith, omega arith)
 pub worked_routes : RouteCases
 worked_routes = record {
   gaining_ring_refused = always_refused delays gaining_set worked_cases.ring_gains (from_to 0 1 ∷ []);
-  even_ring_granted = always_granted delay_test even_set worked_cases.ring_is_even (least_chains delay_test even_set 0 1 (pos 2) [] [] refl (refl, tt) refl ∷ []);
+  even_ring_granted = always_granted delay_test even_set worked_cases.ring_is_even (least_chains delay_test even_set 0 1 (pos 2) [] [] (refl, tt) (refl, tt) refl ∷ []);
   free_pair_granted = always_granted delay_test pair_set worked_cases.pair_is_even (
-      least_chains delay_test pair_set 0 2 (pos 5) [] [] refl (refl, tt) refl ∷
-      least_chains delay_test pair_set 1 2 (pos 5) (0 ∷ []) [] (refl, refl) (refl, tt) refl ∷ []);
+      least_chains delay_test pair_set 0 2 (pos 5) [] [] (refl, tt) (refl, tt) refl ∷
+      least_chains delay_test pair_set 1 2 (pos 5) (0 ∷ []) [] (refl, (refl, tt)) (refl, tt) refl ∷ []);
   gain_elsewhere_refused = always_refused delays elsewhere_set worked_cases.elsewhere_gains (from_to 0 1 ∷ []);
   open_house_granted = always_granted delay_test open_set worked_cases.house_is_even (
-      least_chains delay_test open_set 4 2 (negsuc 1) (3 ∷ 0 ∷ []) [] (refl, (refl, refl)) (refl, tt) refl ∷
-      least_chains delay_test open_set 4 6 (pos 4) (3 ∷ 0 ∷ []) ((4 ∷ 3 ∷ 5 ∷ 1 ∷ 6 ∷ []) ∷ []) (refl, (refl, refl)) (refl, (refl, tt)) refl ∷ []);
+      least_chains delay_test open_set 4 2 (negsuc 1) (3 ∷ 0 ∷ []) [] (refl, (refl, (refl, tt))) (refl, tt) refl ∷
+      least_chains delay_test open_set 4 6 (pos 4) (3 ∷ 0 ∷ []) ((4 ∷ 3 ∷ 5 ∷ 1 ∷ 6 ∷ []) ∷ []) (refl, (refl, (refl, tt))) (refl, (refl, tt)) refl ∷ []);
   barred_house_granted = always_granted delay_test barred_set barred_is_even (
       no_chain barred_set 4 2 refl ∷
-      least_chains delay_test barred_set 4 6 (pos 4) (3 ∷ 5 ∷ 1 ∷ []) [] (refl, (refl, (refl, refl))) (refl, tt) refl ∷ []);
+      least_chains delay_test barred_set 4 6 (pos 4) (3 ∷ 5 ∷ 1 ∷ []) [] (refl, (refl, (refl, (refl, tt)))) (refl, tt) refl ∷ []);
   reversed_house_granted = always_granted delay_test reversed_set reversed_is_even (
-      least_chains delay_test reversed_set 2 4 (negsuc 1) (0 ∷ 3 ∷ []) [] (refl, (refl, refl)) (refl, tt) refl ∷ []);
+      least_chains delay_test reversed_set 2 4 (negsuc 1) (0 ∷ 3 ∷ []) [] (refl, (refl, (refl, tt))) (refl, tt) refl ∷ []);
+  same_ends_granted = always_granted delay_test pair_set worked_cases.pair_is_even (
+      stays delay_test pair_set 0 (pos 0) refl refl ∷
+      least_chains delay_test pair_set 1 0 (pos 0) [] [] (refl, tt) (refl, tt) refl ∷
+      stays delay_test pair_set 2 (pos 0) refl refl ∷ []);
+  same_ends_deep_granted = always_granted depth_test deeper_set (depth_is_even (cards_of deeper_way)) (
+      stays depth_test deeper_set 2 (bits 255) (same_bits _ _ refl) refl ∷
+      least_chains depth_test deeper_set 0 2 (bits 8) (1 ∷ []) [] (refl, (refl, tt)) (same_bits _ _ refl, tt) refl ∷ []);
+  same_ends_refused = always_refused delays elsewhere_set worked_cases.elsewhere_gains (from_to 0 0 ∷ []);
   deeper_way_granted = always_granted depth_test deeper_set (depth_is_even (cards_of deeper_way)) (
-      least_chains depth_test deeper_set 0 2 (bits 8) (1 ∷ []) [] (refl, refl) (same_bits _ _ refl, tt) refl ∷ []);
+      least_chains depth_test deeper_set 0 2 (bits 8) (1 ∷ []) [] (refl, (refl, tt)) (same_bits _ _ refl, tt) refl ∷ []);
 }

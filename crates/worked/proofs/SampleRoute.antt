@@ -16,4 +16,4 @@ calm : Gains delay sample_set.card → ⊥
 calm = no_gain sample_set.card (heights (pos 0 ∷ pos 6 ∷ pos 12 ∷ [])) (table_passes (rising (heights (pos 0 ∷ pos 6 ∷ pos 12 ∷ []))) sample_said.plain.register refl)
 
 pub sample_granted : AlwaysGranted delays (standing sample_said.plain.register) (by_chains 0 1 (pos 6) ((0 ∷ 2 ∷ 1 ∷ []) ∷ []) ∷ chainless delay 1 0 ∷ [])
-sample_granted = always_granted delay_test sample_set calm (least_chains delay_test sample_set 0 1 (pos 6) (2 ∷ []) [] (refl, refl) (refl, tt) refl ∷ no_chain sample_set 1 0 refl ∷ [])
+sample_granted = always_granted delay_test sample_set calm (least_chains delay_test sample_set 0 1 (pos 6) (2 ∷ []) [] (refl, (refl, tt)) (refl, tt) refl ∷ no_chain sample_set 1 0 refl ∷ [])

@@ -79,6 +79,18 @@ pub record RouteCases : Type 0 where
   -- with every card turned round
   pub reversed_house_granted : AlwaysGranted delays reversed_house (
       by_chains 2 4 (back 2) ((2 ∷ 0 ∷ 3 ∷ 4 ∷ []) ∷ []) ∷ [])
+  -- Legs whose ends are equal, at formats where a loop of cost 0 begins and where no card does, beside one that ends in the same
+  -- format: the chain is the format alone
+  pub same_ends_granted : AlwaysGranted delays (cards_of free_pair) (
+      by_chains 0 0 (pos 0) ((0 ∷ []) ∷ []) ∷
+      by_chains 1 0 (pos 0) ((1 ∷ 0 ∷ []) ∷ []) ∷
+      by_chains 2 2 (pos 0) ((2 ∷ []) ∷ []) ∷ [])
+  -- of depths such a leg keeps all the bits
+  pub same_ends_deep_granted : AlwaysGranted depths (cards_of deeper_way) (
+      by_chains 2 2 (bits 255) ((2 ∷ []) ∷ []) ∷
+      by_chains 0 2 (bits 8) ((0 ∷ 1 ∷ 2 ∷ []) ∷ []) ∷ [])
+  -- where a closed walk undercuts the unit, such a leg alone is refused too
+  pub same_ends_refused : AlwaysRefused delays (cards_of gain_elsewhere) (from_to 0 0 ∷ [])
   -- of depths the most bits are the best
   pub deeper_way_granted : AlwaysGranted depths (cards_of deeper_way) (
       by_chains 0 2 (bits 8) ((0 ∷ 1 ∷ 2 ∷ []) ∷ []) ∷ [])

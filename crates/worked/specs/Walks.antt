@@ -95,5 +95,13 @@ pub record WorkedCases : Type 0 where
   pub barred_4_6 : Least delay barred_house 4 6 (Some (pos 4))
   -- by the chain that does not pass 0
   pub barred_chain_4_6 : ChainCosts delay barred_house (4 ∷ 3 ∷ 5 ∷ 1 ∷ 6 ∷ []) (pos 4)
+  -- from a format to itself the format alone costs the unit, which is the least cost where no closed walk undercuts it
+  pub pair_chain_0_0 : ChainCosts delay (cards_of free_pair) (0 ∷ []) (pos 0)
+  pub pair_0_0 : Least delay (cards_of free_pair) 0 0 (Some (pos 0))
+  -- and is not where one does
+  pub ring_0_0 : Least delay (cards_of gaining_ring) 0 0 (Some (pos 0)) → ⊥
+  -- of depths the unit is all the bits
+  pub depth_chain_2_2 : ChainCosts depth (cards_of deeper_way) (2 ∷ []) (bits 255)
+  pub depth_2_2 : Least depth (cards_of deeper_way) 2 2 (Some (bits 255))
   -- of depths the most bits are the best: 8 by way of 1, not the 6 of the card from 0 to 2
   pub depth_0_2 : Least depth (cards_of deeper_way) 0 2 (Some (bits 8))

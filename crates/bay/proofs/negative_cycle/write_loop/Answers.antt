@@ -32,12 +32,12 @@ way_out-from-requires g c =
 pub write_round-requires : goal.write_round-requires
 write_round-requires g c =
     let back = c.solve_back.ensures.back in
-    let loop = turns_loop _ g.met.R.Cost.Cost.lawful _ _ _ _ back c.trace.new.next _ c.way_out-from.ensures (λ v l ne. c.trace.ensures.traced v l ne (get_or-replicate most_formats v true false (omega (arith, c.solve_back.ensures.back.few)))) in
+    let loop = turns_loop _ g.met.R.Cost.Cost.lawful _ _ _ _ back c.trace.new.next _ c.way_out-from.ensures (λ v l. c.trace.ensures.traced v l (get_or-replicate most_formats v true false (omega (arith, c.solve_back.ensures.back.few)))) in
     record { room = c.requires.row; leads = loop.4; inside = omega (arith, back.inside, back.few) }
 
 pub returns : goal.returns
 returns g c =
-    let loop = turns_loop _ g.met.R.Cost.Cost.lawful _ _ _ _ c.solve_back.ensures.back c.trace.new.next _ c.way_out-from.ensures (λ v l ne. c.trace.ensures.traced v l ne (get_or-replicate most_formats v true false (omega (arith, c.solve_back.ensures.back.few)))) in
+    let loop = turns_loop _ g.met.R.Cost.Cost.lawful _ _ _ _ c.solve_back.ensures.back c.trace.new.next _ c.way_out-from.ensures (λ v l. c.trace.ensures.traced v l (get_or-replicate most_formats v true false (omega (arith, c.solve_back.ensures.back.few)))) in
     let from = c.way_out-from.result in
     record {
       clear = lent_back Clear c.drop-ticks.ensures (search rules);

@@ -6,10 +6,10 @@ pub returns : goal.returns
 returns g c =
     let pre = c.requires in
     record {
-      traced = λ v l ne want.
+      traced = λ v l want.
           served_traced g.C.Cost g.met.C.Cost.lawful _ _ _ (record { laid = pre.laid; few = pre.few; inside = pre.inside; calm = pre.calm; least = pre.least }) _ _
-          c.lead_all.ensures.leads v l ne (c.lead_all.ensures.covered v l want);
-      ticked = λ v l ne want.
-          served_ticked g.C.Cost g.met.C.Cost.lawful _ _ _ _ _ c.lead_all.ensures.leads v l ne (c.lead_all.ensures.covered v l want);
+          c.lead_all.ensures.leads v (c.lead_all.ensures.covered v l want);
+      ticked = λ v l want.
+          served_ticked g.C.Cost g.met.C.Cost.lawful _ _ _ _ _ c.lead_all.ensures.leads v (c.lead_all.ensures.covered v l want);
       same = search rules;
     }

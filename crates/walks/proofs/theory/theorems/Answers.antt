@@ -1,4 +1,4 @@
-use Rattle.walks.proofs.Cut.{cut_to_chain, least_is_near}
+use Rattle.walks.proofs.Cut.{cut_to_chain, least_is_near, unit_is_least}
 use Rattle.walks.proofs.Fold.{fold_step}
 use Rattle.walks.proofs.Loops.{look_finds, no_hidden_loop}
 use Rattle.walks.proofs.Tree.{tree_reaches}
@@ -12,6 +12,7 @@ returns g c =
       look_finds = look_finds L;
       no_hidden_loop = no_hidden_loop L;
       cut_to_chain = cut_to_chain L;
+      unit_is_least = unit_is_least L;
       least_is_near = least_is_near L;
       tree_reaches = tree_reaches L;
     }

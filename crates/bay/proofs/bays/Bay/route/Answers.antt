@@ -1,17 +1,20 @@
 -- What the route call is owed, from the search and from what was written.
-use Rattle.std.proofs.Common.{◌≡◌, ◌*◌, ◌≤◌, map, length, get_or, Ok, sym, refl, ap, ◌∙◌, subst, subst₂, inl, inr, arith, rules}
+use Rattle.std.proofs.Common.{◌≡◌, ℕ, ◌*◌, ◌<◌, ◌≤◌, List, map, length, get_or, Ok, sym, refl, ap, ◌∙◌, subst, subst₂, inl, inr, arith, rules}
 use lib.ListN.{length-map}
+use Rattle.std.specs.List.{All}
 use Rattle.registers.specs.Meaning.{most_formats, standing}
 use Rattle.bay.specs.Bays.{legs, plain}
 use Rattle.bay.specs.Buffers.{Beyond, buffers}
 use Rattle.bay.specs.RouteWriters.{slots_of}
 use Rattle.bay.specs.Legs.{booked}
-use Rattle.bay.specs.Plain.{ends}
-use Rattle.bay.specs.Routes.{LeastChains}
+use Rattle.bay.specs.Plain.{EndsBelow, ends}
+use Rattle.bay.specs.Leg.{no_leg, noted}
+use Rattle.bay.specs.Routes.{LeastChains, note_of}
+use Rattle.bay.specs.declared.legs.Leg.{Leg}
 use Rattle.bay.specs.Routing.{Granted, RouteAnswer}
 use Rattle.bay.specs.Sheet.{row_at, row_bytes}
 use Rattle.bay.proofs.Follow.{none_ticked}
-use Rattle.bay.proofs.Granted.{ends_opened}
+use Rattle.bay.proofs.Granted.{ends_opened, inside_same}
 use Rattle.bay.proofs.Passes.{beyond_then}
 use Rattle.bay.proofs.PivotSteps.{lent_back}
 use Rattle.bay.proofs.RouteCall.{ends_noted, loop_in_row, noted_all, room_enough, settled_cards}
@@ -29,6 +32,28 @@ invariant_of-writer g c =
 
 pub write_routes-requires-clause-clear : goal.write_routes-requires-clause-clear
 write_routes-requires-clause-clear g c = none_ticked most_formats
+
+pub write_routes-requires-clause-legs : goal.write_routes-requires-clause-legs
+write_routes-requires-clause-legs g c = inside_same _ _ _ _ c.size-n.ensures.value refl c.args.self.now.inside
+
+pub invariant_of-self : goal.invariant_of-self
+invariant_of-self g c = record { inside = inside_same _ _ _ _ refl (ap (map ends) c.open_all.ensures ∙ ends_opened (legs c.args.self.now)) c.args.self.now.inside }
+
+-- the route leaves the legs' ends as they were
+ends_left : (n : ℕ) (was now : List Leg) (row : ℕ → List ℕ) → length now ≡ length was → ((k : ℕ) → k < length was → get_or now k no_leg ≡ noted (note_of (row k)) (get_or was k no_leg)) →
+    All (EndsBelow n) (map ends was) → All (EndsBelow n) (map ends now)
+ends_left n was now row long notes inside = inside_same _ _ _ _ refl (ap (map ends) (noted_all row was now long notes) ∙ ends_noted 0 row was) inside
+
+pub invariant_of-self-in-None : goal.invariant_of-self-in-None
+invariant_of-self-in-None g c =
+    let was = legs c.args.self.now in
+    let now = slots_of c.write_routes.new.self in
+    let wrote = c.write_routes.ensures in
+    let n = (plain c.args.self.now).register.size in
+    record {
+      inside = lent_back (λ l. All (EndsBelow n) (map ends (booked l))) {x = c.write_routes.new.self.legs.now} {x' = c.drop-writer.new.self.0}
+          (ends_left n was now.legs (row_at now.chains) wrote.legs wrote.notes c.args.self.now.inside) (search rules);
+    }
 
 pub returns-in-Some : goal.returns-in-Some
 returns-in-Some g c =

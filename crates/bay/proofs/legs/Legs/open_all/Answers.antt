@@ -1,10 +1,9 @@
-use Rattle.std.proofs.Common.{◌≤◌, length, take, sym, ap, ◌∙◌, subst, arith}
+use Rattle.std.proofs.Common.{◌≤◌, length, take, ap, ◌∙◌, arith}
 use lib.ListN.{length-map}
 use Rattle.std.proofs.lemmas.List.{take_at}
 use Rattle.bay.specs.Leg.{opened}
 use Rattle.bay.specs.Legs.{booked}
-use Rattle.bay.specs.Leg.{Apart}
-use Rattle.bay.proofs.LegSteps.{apart_opened, length_booked, length_opened}
+use Rattle.bay.proofs.LegSteps.{length_booked, length_opened}
 use Rattle.bay.proofs.legs.Legs.open_all.Goals as goal
 
 pub invariant_of-self : goal.invariant_of-self
@@ -15,7 +14,6 @@ invariant_of-self c =
     record {
       long = ap length is ∙ length_opened legs.count legs.list fits ∙ legs.long;
       few = legs.few;
-      apart = subst (Apart legs.count) (sym is) (apart_opened legs.count legs.list fits legs.apart);
     }
 
 pub returns : goal.returns

@@ -1,19 +1,24 @@
-use Rattle.std.proofs.Common.{◌<◌, get_or, sym, ap, ◌∙◌, subst, arith}
-use Rattle.bay.specs.Leg.{no_leg}
+use Rattle.std.proofs.Common.{◌<◌, length, get_or, sym, ap, ◌∙◌, subst, arith}
 use Rattle.registers.specs.Meaning.{most_formats}
+use Rattle.bay.specs.Leg.{no_leg}
+use Rattle.bay.specs.Legs.{booked}
 use Rattle.bay.proofs.LegSteps.{started_more, started_passes}
+use Rattle.bay.proofs.SlotSteps.{leg_below}
 use Rattle.bay.proofs.writing.RouteWriter.starts_to.Goals as goal
-use Rattle.bay.proofs.writing.RouteWriter.starts_to.Goals.{then-leg-goal+then-leg-lt-MOST_FORMATS, else-leg-goal, else-leg-goal-via-then-leg-goal+else-leg-lt-MOST_FORMATS, else-leg-goal-via-else-leg-goal}
+use Rattle.bay.proofs.writing.RouteWriter.starts_to.Goals.{then-leg-goal, else-leg-goal}
+
+pub bounds-starts-leg : goal.bounds-starts-leg
+bounds-starts-leg g c =
+    let legs = booked c.args.self.now.legs.now in
+    let is = ap (λ legs. get_or legs c.loop-leg.leg-index no_leg) c.as_slice-leg-items.ensures in
+    subst (λ leg. leg.from < most_formats) (sym is) (leg_below most_formats legs c.requires c.loop-leg.leg-index (omega (arith, ap length c.as_slice-leg-items.ensures))).0
 
 pub loop-leg-preserved : goal.loop-leg-preserved
 loop-leg-preserved g c =
+    let legs = booked c.args.self.now.legs.now in
     let is = ap (λ legs. get_or legs c.loop-leg.leg-index no_leg) c.as_slice-leg-items.ensures in
+    let inside = leg_below most_formats legs c.requires c.loop-leg.leg-index (omega (arith, ap length c.as_slice-leg-items.ensures)) in
     elim c.if-leg-goal.branch [
-      | then-leg-goal+then-leg-lt-MOST_FORMATS w ↦ started_more _ _ _ _ c.loop-leg.invariant _ is w.if-leg-lt-MOST_FORMATS.true _ w.starts-is
-      | else-leg-goal w ↦ started_passes _ _ _ _ c.loop-leg.invariant
-          (λ to from. elim w.else-leg-goal.branch [
-            | else-leg-goal-via-then-leg-goal+else-leg-lt-MOST_FORMATS u ↦ omega (arith, u.if-leg-lt-MOST_FORMATS.false, subst (λ leg. leg.from < most_formats) (sym is) from)
-            | else-leg-goal-via-else-leg-goal u ↦ u.if-leg-goal.false (ap (λ leg. leg.to) is ∙ to)
-          ])
-          _ w.starts-is
+      | then-leg-goal w ↦ started_more _ _ _ _ c.loop-leg.invariant _ is (subst (λ leg. leg.from < most_formats) (sym is) inside.0) _ w.starts-is
+      | else-leg-goal w ↦ started_passes _ _ _ _ c.loop-leg.invariant (λ to. w.if-leg-goal.false (ap (λ leg. leg.to) is ∙ to)) _ w.starts-is
     ]

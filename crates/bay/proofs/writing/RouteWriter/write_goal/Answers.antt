@@ -1,33 +1,31 @@
-use Rattle.std.proofs.Common.{◌≡◌, ◌+◌, ◌<◌, get_or, get_or-take, sym, ap, ◌∙◌, subst, arith}
+use Rattle.std.proofs.Common.{◌≡◌, ◌+◌, get_or, sym, ap, ◌∙◌, subst, subst₂, arith}
 use Rattle.bay.specs.Cells.{cards_in}
 use Rattle.bay.specs.Tracing.{Traced}
 use Rattle.bay.specs.Leg.{no_leg}
+use Rattle.bay.specs.Plain.{EndsBelow, ends}
 use Rattle.bay.specs.RouteWriters.{SameMemory, slots_of}
-use Rattle.bay.proofs.LegSteps.{length_booked}
-use Rattle.bay.proofs.SlotSteps.{Serving, lent_then, same_ends, same_number, serving_passes, serving_more}
+use Rattle.bay.proofs.SlotSteps.{Serving, leg_below, lent_then, same_ends, same_number, serving_passes, serving_more}
 use Rattle.bay.proofs.writing.RouteWriter.write_goal.Goals as goal
 use Rattle.bay.proofs.writing.RouteWriter.write_goal.Goals.{then-leg-goal, else-leg-goal}
 
--- the two ends of a leg are different, so the format where the leg begins is not the goal
+pub write_leg-requires-clause-inside : goal.write_leg-requires-clause-inside
+write_leg-requires-clause-inside g c =
+    let before = slots_of c.args.self.now in
+    let now = slots_of c.loop-k.self in
+    let written = c.loop-k.invariant.0.written in
+    let here = ap (λ list. ends (get_or list c.loop-k.k no_leg)) c.as_slice.ensures in
+    subst (EndsBelow c.args.n) (sym (here ∙ same_ends before now written c.loop-k.k))
+    (leg_below c.args.n before.legs c.requires.legs c.loop-k.k (omega (arith, same_number before now written, c.len-k-end.ensures.value)))
+
 pub write_leg-requires-clause-traced : goal.write_leg-requires-clause-traced
-write_leg-requires-clause-traced g c l =
-    let legs = c.loop-k.self.legs.now in
+write_leg-requires-clause-traced g c =
     let leg = get_or c.as_slice.result.now c.loop-k.k no_leg in
     let before = slots_of c.args.self.now in
     let now = slots_of c.loop-k.self in
     let written = c.loop-k.invariant.0.written in
-    let few = same_number before now written in
-    let inside : c.loop-k.k < legs.count = omega (arith, few, length_booked legs, c.len-k-end.ensures.value) in
-    let is : leg ≡ get_or legs.list c.loop-k.k no_leg = ap (λ list. get_or list c.loop-k.k no_leg) c.as_slice.ensures ∙ get_or-take legs.count legs.list c.loop-k.k no_leg inside in
-    let apart = subst (λ l. l.from ≡ l.to → ⊥) (sym is) (legs.apart c.loop-k.k inside) in
-    let here : leg ≡ get_or now.legs c.loop-k.k no_leg = ap (λ list. get_or list c.loop-k.k no_leg) c.as_slice.ensures in
-    let same = same_ends before now written c.loop-k.k in
-    let from_is : (get_or before.legs c.loop-k.k no_leg).from ≡ leg.from = sym (ap (λ l. l.from) here ∙ ap (λ e. e.from) same) in
-    let to_is : (get_or before.legs c.loop-k.k no_leg).to ≡ c.args.goal = sym (ap (λ l. l.to) here ∙ ap (λ e. e.to) same) ∙ c.if-leg-goal.true in
-    subst (λ t. Traced g.C.Cost c.args.n c.args.table.now t c.args.next.now leg.from) (sym c.if-leg-goal.true)
-    (subst (λ v. Traced g.C.Cost c.args.n c.args.table.now c.args.goal c.args.next.now v) from_is
-    (c.requires.traced c.loop-k.k (omega (arith, few, length_booked legs, inside)) to_is (subst (λ v. v < c.args.n) (sym from_is) l)
-    (λ e. apart (sym from_is ∙ e ∙ sym c.if-leg-goal.true))))
+    let is : ends leg ≡ ends (get_or before.legs c.loop-k.k no_leg) = ap (λ list. ends (get_or list c.loop-k.k no_leg)) c.as_slice.ensures ∙ same_ends before now written c.loop-k.k in
+    subst₂ (λ t v. Traced g.C.Cost c.args.n c.args.table.now t c.args.next.now v) (sym c.if-leg-goal.true) (sym (ap (λ e. e.from) is))
+    (c.requires.traced c.loop-k.k (omega (arith, same_number before now written, c.len-k-end.ensures.value)) (sym (ap (λ e. e.to) is) ∙ c.if-leg-goal.true))
 
 pub loop-k-preserved : goal.loop-k-preserved
 loop-k-preserved g c =

@@ -1,15 +1,19 @@
 -- The cards of the table stay, so what is written for each goal is about the cards at entry.
 use Rattle.std.proofs.Common.{◌≡◌, ◌+◌, rules, sym, subst, arith}
+use Rattle.std.proofs.lemmas.List.Elements.{All-weaker}
 use Rattle.bay.specs.Cells.{Kept, cards_in}
 use Rattle.bay.specs.Eliminated.{FirstDone}
 use Rattle.bay.specs.Tracing.{Clear}
 use Rattle.bay.proofs.Passes.{cards_kept, kept_then}
+use Rattle.bay.specs.Plain.{EndsBelow}
 use Rattle.bay.specs.RouteWriters.{SameMemory, slots_of}
+use Rattle.registers.specs.Meaning.{most_formats}
 use Rattle.bay.specs.LegSlots.{GoalServed}
-use Rattle.bay.proofs.SlotSteps.{Progress, lent_then, progress_passes, progress_more, progress_since, same_number}
+use Rattle.bay.proofs.SlotSteps.{Progress, leg_below, lent_then, progress_passes, progress_more, progress_since, same_number, written_below}
 use Rattle.bay.proofs.PivotSteps.{lent_back}
 use Rattle.bay.proofs.RouteSteps.{all_routed, all_noted}
 use Rattle.bay.proofs.TableSteps.{kept_calm, kept_calmed, kept_laid, kept_least, kept_low, low_kept}
+use Rattle.bay.proofs.Tights.{least_with_goal}
 use Rattle.bay.proofs.writing.RouteWriter.write_routes.Goals as goal
 use Rattle.bay.proofs.writing.RouteWriter.write_routes.Goals.{then-leads_to, else-leads_to}
 
@@ -38,17 +42,27 @@ trace-requires g c =
       clear = subst Clear (sym c.over-ticks.ensures.ticks) clear;
     }
 
+pub starts_to-wanted-requires : goal.starts_to-wanted-requires
+starts_to-wanted-requires g c =
+    let first = slots_of c.clear.new.self in
+    let legs = written_below c.args.n first (slots_of c.loop-goal.self) c.loop-goal.invariant.0.written (written_below c.args.n _ first c.clear.ensures.written c.requires.legs) in
+    All-weaker (EndsBelow c.args.n) (EndsBelow most_formats) (λ e below. (omega (arith, below.0, c.requires.few), omega (arith, below.1, c.requires.few))) _ legs
+
 pub write_goal-requires : goal.write_goal-requires
 write_goal-requires g c =
     let K = g.C.Cost in
     let (progress, lent, clear, before, low) = c.loop-goal.invariant in
     let kept = kept_then c.args.n _ _ _ before c.solve_to.ensures.kept in
+    let first = slots_of c.clear.new.self in
+    let legs = written_below c.args.n first (slots_of c.loop-goal.self) progress.written (written_below c.args.n _ first c.clear.ensures.written c.requires.legs) in
     record {
       laid = kept_laid K c.args.n _ _ kept c.requires.laid;
       few = c.requires.few;
       inside = c.loop-goal-test.true;
-      least = kept_least K c.args.n _ _ c.solve_to.ensures.kept c.loop-goal.goal c.solve_to.ensures.least;
-      traced = λ k l e lt ne. c.trace.ensures.traced _ lt ne (c.starts_to-wanted.ensures k l e (omega (arith, c.requires.few)));
+      legs = legs;
+      least = least_with_goal K g.met.C.Cost.lawful c.args.n _ _ (kept_calm K c.args.n _ _ kept c.requires.calm)
+          (kept_least K c.args.n _ _ c.solve_to.ensures.kept c.loop-goal.goal c.solve_to.ensures.least);
+      traced = λ k l e. c.trace.ensures.traced _ (leg_below c.args.n _ legs k l).0 (c.starts_to-wanted.ensures k l e);
       awaits = λ k l e. progress.later k l (omega arith);
     }
 
@@ -96,11 +110,11 @@ returns g c =
     (progress_since g.C.Cost card before (slots_of c.clear.new.self) now c.loop-goal.goal c.clear.ensures.written progress) in
     record {
       lent = lent_then c.args.self.now c.clear.new.self c.loop-goal.self c.clear.ensures.lent lent;
-      routed = all_routed g.C.Cost g.met.C.Cost.lawful c.args.n c.args.table.now c.requires.laid before now all;
+      routed = all_routed g.C.Cost g.met.C.Cost.lawful c.args.n c.args.table.now c.requires.laid before now c.requires.legs all;
       chains = all.written.chains;
       costs = all.written.costs;
       legs = same_number before now all.written;
-      notes = all_noted g.C.Cost g.met.C.Cost.lawful c.args.n c.args.table.now c.requires.laid before now all;
+      notes = all_noted g.C.Cost g.met.C.Cost.lawful c.args.n c.args.table.now c.requires.laid before now c.requires.legs all;
       kept = kept;
       clear = clear;
     }

@@ -23,5 +23,5 @@ returns g c =
     let sorted : InOrder (admits g.C.Cost) l.n l.count l.entries.now = record { few = l.few; live = l.live; rise = l.rise; clear = l.clear (sym c.if-not-list_fits.ensures) } in
     let is : c.search.result ≡ Ok c.in_ok-place.place = search rules in
     let found : FoundAt (admits g.C.Cost) l.n l.count l.entries.now c.args.from c.args.to c.in_ok-place.place = MatchResult-at_ok _ _ _ is c.search.ensures in
-    let done = withdrawn_from g.C.Cost l.n l.entries.now c.args.from c.args.to _ c.size.ensures.value (sym c.in_ok-judge_ends.ensures.fine) c.if-not-list_fits.ensures l.count sorted c.in_ok-place.place found in
+    let done = withdrawn_from g.C.Cost l.n l.entries.now c.args.from c.args.to _ c.size.ensures.value (sym c.in_ok-judge_pair.ensures.fine) c.if-not-list_fits.ensures l.count sorted c.in_ok-place.place found in
     record { answer = done.0; after = ap (λ es. meant g.C.Cost (listed (admits g.C.Cost) l.n es)) c.shift_down.ensures ∙ done.1; memory = c.shift_down.ensures ∙ done.2; size = refl; lent = refl }
