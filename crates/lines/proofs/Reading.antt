@@ -5,7 +5,8 @@ use Rattle.std.proofs.lemmas.List.{take_more, take_all, take-append-drop, drop-d
 use Rattle.std.proofs.lemmas.Bool.{ne_eqb, cond-false, false≢true}
 use Rattle.lines.specs.Signs.{digit}
 use Rattle.lines.specs.Grammar.{line_text, Allowed, FourSigns, Fits, Unfinished, part, number_begins, code_begins, IsRead}
-use Rattle.lines.specs.Rests.{Rest, dead, over, on, number, after_byte, fixed, letters_of, ending, closing, size_rest, code_rest, number_rest, delay_line, depth_line, half_more, lines_end, lines_rest, bits_end, bits_rest, cost_rest, pair_end, to_rest, from_rest, kind_choice, word_end, word_rest, first_rest, line_rest, reading, lines_reading, bits_reading, rest_at, to_come}
+use Rattle.std.proofs.lemmas.Bool.{cond_both}
+use Rattle.lines.specs.Rests.{Rest, dead, over, on, number, after_byte, fixed, letters_of, ending, closing, size_rest, code_rest, number_rest, delay_line, depth_line, half_more, lines_end, lines_rest, bits_end, bits_rest, cost_rest, pair_end, to_rest, from_rest, kind_choice, is_front, kind_rest, word_end, word_rest, first_rest, line_rest, reading, lines_reading, bits_reading, rest_at, to_come}
 use Rattle.lines.specs.declared.line.Kind.{Kind}
 use Rattle.lines.specs.declared.line.Kind.TheVariants.{Delay, Depth}
 use Rattle.lines.specs.declared.line.Line.{Line}
@@ -133,8 +134,6 @@ waits_first Legs = tt
 
 waits_word : (stage : Stage) (w : Word) → Waits (word_end stage w)
 waits_word stage word.Bay = tt
-waits_word stage word.Delay = tt
-waits_word stage word.Depth = tt
 waits_word stage word.Format = tt
 waits_word stage word.Card = tt
 waits_word stage word.Leg = tt
@@ -142,18 +141,22 @@ waits_word stage word.End = tt
 
 waits_pair : (stage : Stage) (w : Word) (a b : ℕ) → Waits (pair_end stage w a b)
 waits_pair stage word.Bay a b = tt
-waits_pair stage word.Delay a b = tt
-waits_pair stage word.Depth a b = tt
 waits_pair stage word.Format a b = tt
 waits_pair stage word.Card a b = tt
 waits_pair stage word.Leg a b = tt
 waits_pair stage word.End a b = tt
 
+waits_kind : (ls : List ℕ) → Waits (kind_rest ls)
+waits_kind ls =
+    cond_both (is_front ls (codes "de")) _ _ Waits (λ _. waits_fixed (drop (length ls) (codes "de")) kind_choice tt) (λ _.
+    cond_both (is_front ls (codes "delay")) _ _ Waits (λ _. waits_fixed (drop (length ls) (codes "delay ")) (size_rest Delay) tt) (λ _.
+    cond_both (is_front ls (codes "depth")) _ _ Waits (λ _. waits_fixed (drop (length ls) (codes "depth ")) (size_rest Depth) tt) (λ _. tt)))
+
 waits_at : (s : State) (r : Reader) → (s ≡ Over → ⊥) → Waits (rest_at s r)
 waits_at Opening r n = tt
 waits_at First r n = waits_first r.stage
 waits_at InWord r n = waits_fixed (drop r.at (letters_of r.word)) (word_end r.stage r.word) (waits_word r.stage r.word)
-waits_at InKind r n = waits_fixed (drop r.at (codes "de")) kind_choice tt
+waits_at InKind r n = waits_kind (take r.at r.letters)
 waits_at Pair r n = tt
 waits_at Size r n = waits_reading r.numeral.value 41 (λ n. ending (line.Bay r.kind n))
 waits_at Number r n = waits_reading r.numeral.value 32 (λ k. code_rest k 0 [])

@@ -1,12 +1,16 @@
 -- One step of the reader inside a word or a code, where how far it has come is a variable.
 -- The other steps compute.
-use Rattle.std.proofs.Common.{◌≡◌, ℕ, zero, suc, ◌+◌, ◌-◌, ◌<◌, ◌≤◌, Bool, true, false, ◌&&◌, ◌||◌, eqb, List, [], ◌∷◌, ◌++◌, length, get_or, take, drop, set, codes, sym, refl, ap, ◌∙◌, inl, inr, append_assoc, arith}
+use Rattle.std.proofs.Common.{◌≡◌, ℕ, zero, suc, ◌+◌, ◌-◌, ◌<◌, ◌≤◌, Bool, true, false, cond, ◌&&◌, ◌||◌, eqb, List, [], ◌∷◌, ◌++◌, length, get_or, take, drop, set, codes, sym, refl, ap, ◌∙◌, inl, inr, append_assoc, arith}
 use mathlib.Core.Path.{fun_ext}
-use Rattle.std.proofs.lemmas.List.{drop_more, drop_all, take_more_set, take_all, append-nil}
-use Rattle.std.proofs.lemmas.Bool.{ne_eqb, cond-true, cond-false, cases_lt, both_ways}
+use Rattle.std.specs.Bool.{Decides}
+use Rattle.std.proofs.lemmas.List.{drop_more, drop_all, take_more_set, take_all, append-nil, get_or_append_left, length-take-le}
+use Rattle.std.proofs.lemmas.Bool.{ne_eqb, eq-eqb, eqb-true, and_parts, and_from, cond_both, cond-true, cond-false, cases_lt, both_ways, false≢true, false_from_ne_true}
 use Rattle.std.proofs.lemmas.Bool.Decides.{nat_tests}
 use Rattle.lines.specs.Signs.{digit, letter, sort_of}
-use Rattle.lines.specs.Rests.{Rest, dead, after_byte, fixed, signs, letters_of, word_end, word_rest, kind_choice, code_rest, closing, to_come, rest_at}
+use Rattle.lines.specs.Rests.{Rest, dead, after_byte, left, fixed, signs, letters_of, word_end, word_rest, is_front, kind_rest, kind_choice, size_rest, code_rest, closing, to_come, rest_at}
+use Rattle.lines.specs.Grammar.{kind_text}
+use Rattle.lines.specs.declared.line.Kind.{Kind}
+use Rattle.lines.specs.declared.line.Kind.TheVariants.{Delay, Depth}
 use Rattle.lines.specs.declared.line.Line.TheVariants as line
 use Rattle.lines.specs.declared.line.Stage.{Stage}
 use Rattle.lines.specs.declared.reader.Reader.{Reader}
@@ -14,7 +18,7 @@ use Rattle.lines.specs.declared.reader.State.{State}
 use Rattle.lines.specs.declared.reader.State.TheVariants.{InWord, InKind, InCode}
 use Rattle.lines.specs.declared.sort.Sort.TheVariants.{Letter, Digit, Space, Close}
 use Rattle.lines.specs.declared.words.Word.{Word}
-use Rattle.lines.specs.declared.words.Word.TheVariants.{Bay, Delay, Depth, Format, Card, Leg, End}
+use Rattle.lines.specs.declared.words.Word.TheVariants.{Bay, Format, Card, Leg, End}
 
 -- a text of which `at` bytes were read
 pub fixed_stops : (w : List ℕ) (at c : ℕ) (r : Rest) → at < length w → (get_or w at 0 ≡ c → ⊥) → after_byte (fixed (drop at w) r) c ≡ dead
@@ -36,8 +40,6 @@ letter_at (c ∷ cs) (suc at) h l = letter_at cs at (grind arith) (omega arith)
 
 lettered : (w : Word) → all_letters (letters_of w) ≡ true
 lettered Bay = refl
-lettered Delay = refl
-lettered Depth = refl
 lettered Format = refl
 lettered Card = refl
 lettered Leg = refl
@@ -51,8 +53,6 @@ word_inside stage w at c l no_letter =
 -- and after it a space or a closing sign
 pub word_after : (stage : Stage) (w : Word) (c : ℕ) → (c ≡ 32 → ⊥) → (c ≡ 41 → ⊥) → after_byte (word_end stage w) c ≡ dead
 word_after stage Bay c s t = grind (arith, nat_tests)
-word_after stage Delay c s t = grind (arith, nat_tests)
-word_after stage Depth c s t = grind (arith, nat_tests)
 word_after stage Format c s t = grind (arith, nat_tests)
 word_after stage Card c s t = grind (arith, nat_tests)
 word_after stage Leg c s t = grind (arith, nat_tests)
@@ -112,17 +112,125 @@ word_stops r c e n s t = elim (cases_lt r.at (length (letters_of r.word))) [
 ]
 
 -- The reader in a kind.
-pub kind_over : (r : Reader) → r.state ≡ InKind → 2 ≤ r.at → kind_choice ≡ to_come r
-kind_over r e l = sym (in_state r InKind e ∙ fixed_ends (codes "de") r.at kind_choice l)
+-- one letter more
+pub kind_goes : (ls : List ℕ) (c : ℕ) → length ls < 5 → (is_front (ls ++ c ∷ []) (codes "delay") || is_front (ls ++ c ∷ []) (codes "depth")) ≡ true → kind_rest (ls ++ c ∷ []) ≡ after_byte (kind_rest ls) c
+kind_goes [] c l h = grind (arith, nat_tests)
+kind_goes (x ∷ []) c l h = grind (arith, nat_tests)
+kind_goes (x ∷ y ∷ []) c l h = grind (arith, nat_tests)
+kind_goes (x ∷ y ∷ z ∷ []) c l h = grind (arith, nat_tests)
+kind_goes (x ∷ y ∷ z ∷ w ∷ []) c l h = grind (arith, nat_tests)
+kind_goes (x ∷ y ∷ z ∷ w ∷ v ∷ ls) c l h = absurd (omega arith)
 
-pub kind_stops : (r : Reader) (c : ℕ) → r.state ≡ InKind → (sort_of c ≡ Letter → ⊥) → dead ≡ after_byte (to_come r) c
-kind_stops r c e n =
-    let no : letter c ≡ false = no_letter c n in
-    elim (cases_lt r.at 2) [
-      | inl l ↦ sym (ap (λ t. after_byte t c) (in_state r InKind e) ∙ fixed_stops (codes "de") r.at c kind_choice l
-          (λ same. let h = letter_at (codes "de") r.at refl l in both_ways (letter c) no (sym (ap letter same) ∙ h)))
-      | inr l ↦ (let f : dead ≡ after_byte kind_choice c = grind (arith, nat_tests) in f) ∙ ap (λ t. after_byte t c) (kind_over r e l)
+pub kind_refuses : (ls : List ℕ) (c : ℕ) → length ls < 5 → letter c ≡ true → (is_front (ls ++ c ∷ []) (codes "delay") || is_front (ls ++ c ∷ []) (codes "depth")) ≡ false → dead ≡ after_byte (kind_rest ls) c
+kind_refuses [] c l k h = grind (arith, nat_tests)
+kind_refuses (x ∷ []) c l k h = grind (arith, nat_tests)
+kind_refuses (x ∷ y ∷ []) c l k h = grind (arith, nat_tests)
+kind_refuses (x ∷ y ∷ z ∷ []) c l k h = grind (arith, nat_tests)
+kind_refuses (x ∷ y ∷ z ∷ w ∷ []) c l k h = grind (arith, nat_tests)
+kind_refuses (x ∷ y ∷ z ∷ w ∷ v ∷ ls) c l k h = absurd (omega arith)
+
+pub front_is : (ls w : List ℕ) → is_front ls w ≡ true → ls ≡ take (length ls) w
+front_is [] w h = refl
+front_is (c ∷ cs) [] h = absurd (false≢true h)
+front_is (c ∷ cs) (b ∷ w) h =
+    let p = and_parts (eqb c b) (is_front cs w) h in
+    λ i. eqb-true c b p.0 i ∷ front_is cs w p.1 i
+
+pub front_short : (ls w : List ℕ) → is_front ls w ≡ true → length ls ≤ length w
+front_short [] w h = omega arith
+front_short (c ∷ cs) [] h = absurd (false≢true h)
+front_short (c ∷ cs) (b ∷ w) h = omega (arith, front_short cs w (and_parts (eqb c b) (is_front cs w) h).1)
+
+pub front_from : (ls w : List ℕ) → ls ≡ take (length ls) w → length ls ≤ length w → is_front ls w ≡ true
+front_from [] w e l = refl
+front_from (c ∷ cs) [] e l = absurd (omega arith)
+front_from (c ∷ cs) (b ∷ w) e l = and_from (eqb c b) (is_front cs w) (eq-eqb c b (ap (λ x. get_or x 0 0) e)) (front_from cs w (ap (drop 1) e) (omega arith))
+
+pub front_same : (ls w : List ℕ) (r : Bool) → length ls ≤ length w → Decides r (ls ≡ take (length ls) w) → r ≡ is_front ls w
+front_same ls w true l d = sym (front_from ls w (d.0 refl) l)
+front_same ls w false l d = sym (false_from_ne_true (is_front ls w) (λ h. false≢true (d.1 (front_is ls w h))))
+
+-- a word and the space after it
+spaced_at : (w : List ℕ) (at c : ℕ) → all_letters w ≡ true → at ≤ length w → letter c ≡ false → (c ≡ 32 → ⊥) → get_or (w ++ 32 ∷ []) at 0 ≡ c → ⊥
+spaced_at [] zero c h l no_letter no_space e = no_space (sym e)
+spaced_at [] (suc at) c h l no_letter no_space e = absurd (omega arith)
+spaced_at (x ∷ w) zero c h l no_letter no_space e = both_ways (letter c) no_letter (sym (ap letter e) ∙ (and_parts (letter x) (all_letters w) h).0)
+spaced_at (x ∷ w) (suc at) c h l no_letter no_space e = spaced_at w at c (and_parts (letter x) (all_letters w) h).1 (omega arith) no_letter no_space e
+
+letter_of : (w : List ℕ) (at c : ℕ) → all_letters w ≡ true → at < length w → letter c ≡ false → get_or (w ++ 32 ∷ []) at 0 ≡ c → ⊥
+letter_of w at c h l no_letter e = both_ways (letter c) no_letter (sym (ap letter (sym (get_or_append_left w (32 ∷ []) 0 at l) ∙ e)) ∙ letter_at w at h l)
+
+-- a byte after some letters of a kind, by what they begin
+kind_stops_at : (ls : List ℕ) (c : ℕ)
+    → (is_front ls (codes "de") ≡ true → after_byte (fixed (drop (length ls) (codes "de")) kind_choice) c ≡ dead)
+    → (is_front ls (codes "delay") ≡ true → (get_or (codes "delay ") (length ls) 0 ≡ c → ⊥))
+    → (is_front ls (codes "depth") ≡ true → (get_or (codes "depth ") (length ls) 0 ≡ c → ⊥))
+    → dead ≡ after_byte (kind_rest ls) c
+kind_stops_at ls c both delay depth =
+    let dies : Rest → Type 0 = λ t. dead ≡ after_byte t c in
+    cond_both (is_front ls (codes "de")) _ _ dies (λ h. sym (both h)) (λ _.
+    cond_both (is_front ls (codes "delay")) _ _ dies (λ h. sym (fixed_stops (codes "delay ") (length ls) c (size_rest Delay) (omega (arith, front_short ls (codes "delay") h)) (delay h))) (λ _.
+    cond_both (is_front ls (codes "depth")) _ _ dies (λ h. sym (fixed_stops (codes "depth ") (length ls) c (size_rest Depth) (omega (arith, front_short ls (codes "depth") h)) (depth h))) (λ _.
+    sym (stuck_stops (eqb c 0)))))
+  where
+    stuck_stops : (t : Bool) → cond t dead dead ≡ dead
+    stuck_stops true = refl
+    stuck_stops false = refl
+
+-- after the first two, no other byte than a letter
+de_stops : (ls : List ℕ) (c : ℕ) → letter c ≡ false → after_byte (fixed (drop (length ls) (codes "de")) kind_choice) c ≡ dead
+de_stops ls c other = elim (cases_lt (length ls) 2) [
+  | inl l ↦ fixed_stops (codes "de") (length ls) c kind_choice l (λ same. both_ways (letter c) other (sym (ap letter same) ∙ letter_at (codes "de") (length ls) refl l))
+  | inr l ↦ ap (λ t. after_byte t c) (fixed_ends (codes "de") (length ls) kind_choice l) ∙ grind (arith, nat_tests)
+]
+
+-- what is neither a letter nor a space
+pub kind_stops : (r : Reader) (c : ℕ) → r.state ≡ InKind → (sort_of c ≡ Letter → ⊥) → (sort_of c ≡ Space → ⊥) → dead ≡ after_byte (to_come r) c
+kind_stops r c e n s =
+    let other = no_letter c n in
+    let ls = take r.at r.letters in
+    kind_stops_at ls c (λ _. de_stops ls c other)
+    (λ h. spaced_at (codes "delay") (length ls) c refl (front_short ls (codes "delay") h) other (no_space c s))
+    (λ h. spaced_at (codes "depth") (length ls) c refl (front_short ls (codes "depth") h) other (no_space c s))
+    ∙ sym (ap (λ t. after_byte t c) (in_state r InKind e))
+
+-- a space, where the letters are no kind's word
+pub kind_unnamed : (ls : List ℕ) → ((kind : Kind) → ls ≡ kind_text kind → ⊥) → dead ≡ after_byte (kind_rest ls) 32
+kind_unnamed ls none =
+    kind_stops_at ls 32 (λ _. de_stops ls 32 refl) (λ h. part_of (codes "delay") refl h (none Delay)) (λ h. part_of (codes "depth") refl h (none Depth))
+  where
+    part_of : (w : List ℕ) → all_letters w ≡ true → is_front ls w ≡ true → (ls ≡ w → ⊥) → get_or (w ++ 32 ∷ []) (length ls) 0 ≡ 32 → ⊥
+    part_of w h b apart e = elim (cases_lt (length ls) (length w)) [
+      | inl l ↦ letter_of w (length ls) 32 h l refl e
+      | inr l ↦ apart (front_is ls w b ∙ take_all (length ls) w l)
     ]
+
+-- a letter, where they are as many as the word of a kind has
+pub kind_whole : (ls : List ℕ) (c : ℕ) → length ls ≡ 5 → letter c ≡ true → dead ≡ after_byte (kind_rest ls) c
+kind_whole ls c five h =
+    kind_stops_at ls c (λ b. absurd (omega (arith, front_short ls (codes "de") b)))
+    (λ _ e. both_ways (letter 32) refl (ap letter (ap (λ k. get_or (codes "delay ") k 0) (sym five) ∙ e) ∙ h))
+    (λ _ e. both_ways (letter 32) refl (ap letter (ap (λ k. get_or (codes "depth ") k 0) (sym five) ∙ e) ∙ h))
+
+-- one more is collected
+pub kind_taken : (r : Reader) (c : ℕ) (b : Bool) → r.state ≡ InKind → r.at < 5 → length r.letters ≡ 5 → letter c ≡ true
+    → b ≡ (is_front (take (r.at + 1) (set r.letters r.at c)) (codes "delay") || is_front (take (r.at + 1) (set r.letters r.at c)) (codes "depth"))
+    → left b (record r { at = r.at + 1; letters = set r.letters r.at c }) ≡ after_byte (to_come r) c
+kind_taken r c b e l five is_letter fits =
+    by_test b (fits ∙ ap (λ ls. is_front ls (codes "delay") || is_front ls (codes "depth")) taken) ∙ sym (ap (λ t. after_byte t c) (in_state r InKind e))
+  where
+    next : Reader
+    next = record r { at = r.at + 1; letters = set r.letters r.at c }
+
+    taken : take (r.at + 1) (set r.letters r.at c) ≡ take r.at r.letters ++ c ∷ []
+    taken = take_more_set r.letters r.at c (omega (arith, five))
+
+    few : length (take r.at r.letters) < 5
+    few = omega (arith, length-take-le r.at r.letters (omega (arith, five)))
+
+    by_test : (t : Bool) → t ≡ (is_front (take r.at r.letters ++ c ∷ []) (codes "delay") || is_front (take r.at r.letters ++ c ∷ []) (codes "depth")) → left t next ≡ after_byte (kind_rest (take r.at r.letters)) c
+    by_test true h = in_state next InKind e ∙ ap kind_rest taken ∙ kind_goes (take r.at r.letters) c few (sym h)
+    by_test false h = kind_refuses (take r.at r.letters) c few is_letter (sym h)
 
 -- The reader in a code.
 pub code_over : (r : Reader) → r.state ≡ InCode → length r.code ≡ 4 → 4 ≤ r.at → closing (line.Format r.first r.code) ≡ to_come r

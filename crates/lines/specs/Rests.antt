@@ -59,8 +59,6 @@ signs (suc n) next = sign (λ c. signs n (λ cs. next (c ∷ cs)))
 
 abbrev pub letters_of : Word → List ℕ
 letters_of word.Bay = codes "bay"
-letters_of word.Delay = codes "delay"
-letters_of word.Depth = codes "depth"
 letters_of word.Format = codes "format"
 letters_of word.Card = codes "card"
 letters_of word.Leg = codes "leg"
@@ -121,8 +119,6 @@ cost_rest Legs a b = bits_rest a b
 -- what follows a pair: the end after the word of a leg, and else a cost
 abbrev pub pair_end : Stage → Word → ℕ → ℕ → Rest
 pair_end stage word.Bay a b = fixed (codes " ") (cost_rest stage a b)
-pair_end stage word.Delay a b = fixed (codes " ") (cost_rest stage a b)
-pair_end stage word.Depth a b = fixed (codes " ") (cost_rest stage a b)
 pair_end stage word.Format a b = fixed (codes " ") (cost_rest stage a b)
 pair_end stage word.Card a b = fixed (codes " ") (cost_rest stage a b)
 pair_end stage word.Leg a b = closing (line.Leg a b)
@@ -139,14 +135,27 @@ kind_choice =
     on 108 (fixed (codes "ay ") (size_rest Delay)) (
     on 112 (fixed (codes "th ") (size_rest Depth)) dead)
 
-abbrev pub kind_rest : ℕ → Rest
-kind_rest at = fixed (drop at (codes "de")) kind_choice
+-- the second begins with the first
+abbrev pub is_front : List ℕ → List ℕ → Bool
+is_front [] w = true
+is_front (c ∷ cs) [] = false
+is_front (c ∷ cs) (b ∷ w) = (c == b) && is_front cs w
+
+-- no byte fits, where the reader waits for one
+abbrev pub stuck : Rest
+stuck = on 0 dead dead
+
+-- what may still come of a kind after these letters
+abbrev pub kind_rest : List ℕ → Rest
+kind_rest letters =
+    let at = length letters in
+    cond (is_front letters (codes "de")) (fixed (drop at (codes "de")) kind_choice) (
+    cond (is_front letters (codes "delay")) (fixed (drop at (codes "delay ")) (size_rest Delay)) (
+    cond (is_front letters (codes "depth")) (fixed (drop at (codes "depth ")) (size_rest Depth)) stuck))
 
 -- what follows a word
 abbrev pub word_end : Stage → Word → Rest
-word_end stage word.Bay = fixed (codes " ") (kind_rest 0)
-word_end stage word.Delay = fixed (codes " ") (size_rest Delay)
-word_end stage word.Depth = fixed (codes " ") (size_rest Depth)
+word_end stage word.Bay = fixed (codes " ") (kind_rest [])
 word_end stage word.Format = fixed (codes " ") number_rest
 word_end stage word.Card = fixed (codes " (") (from_rest stage word.Card)
 word_end stage word.Leg = fixed (codes " (") (from_rest stage word.Leg)
@@ -195,7 +204,7 @@ abbrev pub rest_at : State → Reader → Rest
 rest_at Opening r = line_rest r.stage
 rest_at First r = first_rest r.stage
 rest_at InWord r = word_rest r.stage r.word r.at
-rest_at InKind r = kind_rest r.at
+rest_at InKind r = kind_rest (take r.at r.letters)
 rest_at Pair r = fixed (codes "(") (from_rest r.stage r.word)
 rest_at Size r = reading r.numeral.value 41 (λ n. ending (line.Bay r.kind n))
 rest_at Number r = reading r.numeral.value 32 (λ k. code_rest k 0 [])

@@ -1,5 +1,5 @@
 // The line reader: it takes the bytes of a line one by one, and knows at each what may still come.
-ghost use Rattle.std.specs.Prelude.{◌≡◌, ◌+◌, true, false, ◌||◌, length, None, if◌then◌else◌};
+ghost use Rattle.std.specs.Prelude.{◌≡◌, ◌+◌, true, false, ◌||◌, length, take, None, if◌then◌else◌};
 ghost use Rattle.lines.specs.Signs.{digit, letter};
 ghost use Rattle.lines.specs.declared.line.Line.TheVariants.{Card};
 ghost use Rattle.lines.specs.declared.reader.State.TheVariants.{InWord, InKind, PairEnd, InCode, Ending};
@@ -9,7 +9,10 @@ ghost use Rattle.lines.specs.Rests.{line_rest, to_come, left, after_byte, takes_
 use crate::line::{Amount, Kind, Line, Read, Stage, Unfit};
 use crate::numeral::Numeral;
 use crate::sort::{Sort, sort_of};
-use crate::words::{Word, word_by};
+use crate::words::{Word, begins_kind, kind_by, word_by};
+
+// The words of the kinds have so many letters.
+const KIND_LETTERS: usize = 5;
 
 // What is being read. In a word or a code, `at` says how far. A delay is read as whole lines, with a point and a 5 after them for half
 // a line, and a depth as bits.
@@ -44,6 +47,8 @@ pub struct Reader {
     word: Word,
     kind: Kind,
     at: usize,
+    // of the word of a kind, the letters so far
+    letters: [u8; KIND_LETTERS],
     // the number that is read, and the numbers before it
     numeral: Numeral,
     first: u32,
@@ -63,6 +68,7 @@ impl Reader {
             word: Word::End,
             kind: Kind::Delay,
             at: 0,
+            letters: [0; KIND_LETTERS],
             numeral: Numeral::new(),
             first: 0,
             second: 0,
@@ -109,19 +115,10 @@ impl Reader {
         if self.at < self.word.letters().len() {
             return false;
         }
-        // Each kind has its arm: one for both would need a second match, on the kind.
         match self.word {
             Word::Bay => {
                 self.at = 0;
                 self.state = State::InKind;
-            }
-            Word::Delay => {
-                self.kind = Kind::Delay;
-                self.begin(State::Size);
-            }
-            Word::Depth => {
-                self.kind = Kind::Depth;
-                self.begin(State::Size);
             }
             Word::Format => self.begin(State::Number),
             Word::Card | Word::Leg => self.state = State::Pair,
@@ -148,22 +145,37 @@ impl Reader {
         }
     }
 
-    // One more letter of a kind. The kinds differ in their third.
+    // The letters of a kind that were collected.
+    fn collected(&self) -> &[u8]
+        ensures { result.now ≡ take self.now.at self.now.letters }
+    {
+        &self.letters[..self.at.min(KIND_LETTERS)]
+    }
+
+    // One more letter of a kind: some kind's word must begin with what is collected then.
     fn kind_letter(&mut self, sign: u8) -> bool
         requires at { self.old.state ≡ InKind }
         requires letter { letter sign ≡ true }
         ensures { left result self.new ≡ after_byte (to_come self.old) sign }
     {
-        if self.at < 2 {
-            return self.letter(b"de", sign);
+        if self.at >= KIND_LETTERS {
+            return false;
         }
-        self.word = match sign {
-            b'l' => Word::Delay,
-            b'p' => Word::Depth,
-            _ => return false,
+        self.letters[self.at] = sign;
+        self.at += 1;
+        begins_kind(self.collected())
+    }
+
+    // The space after a kind.
+    fn leave_kind(&mut self) -> bool
+        requires { self.old.state ≡ InKind }
+        ensures { left result self.new ≡ after_byte (to_come self.old) 32 }
+    {
+        let Some(kind) = kind_by(self.collected()) else {
+            return false;
         };
-        self.at = 3;
-        self.state = State::InWord;
+        self.kind = kind;
+        self.begin(State::Size);
         true
     }
 
@@ -241,6 +253,7 @@ impl Reader {
             (State::InWord, Sort::Space) => self.leave_word(),
             (State::InWord, Sort::Close) => self.close_word(),
             (State::InKind, Sort::Letter) => self.kind_letter(sign),
+            (State::InKind, Sort::Space) => self.leave_kind(),
             (State::Pair, Sort::Open) => {
                 self.begin(State::From);
                 true

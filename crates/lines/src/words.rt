@@ -1,14 +1,14 @@
 // The words of a ticket, letter by letter, and texts compared byte by byte.
-ghost use Rattle.std.specs.Prelude.{◌≡◌, Decides};
-ghost use Rattle.lines.specs.Rests.{letters_of, word_by};
+ghost use Rattle.std.specs.Prelude.{◌≡◌, ◌||◌, Decides, MatchOption};
+ghost use Rattle.lines.specs.declared.line.Kind.{Kind};
+ghost use Rattle.lines.specs.Grammar.{kind_text};
+ghost use Rattle.lines.specs.Rests.{is_front, letters_of, word_by};
 
-use crate::line::Stage;
+use crate::line::{Kind, Stage};
 
 #[derive(Clone, Copy, Debug, PartialEq, Eq)]
 pub enum Word {
     Bay,
-    Delay,
-    Depth,
     Format,
     Card,
     Leg,
@@ -21,8 +21,6 @@ impl Word {
     {
         match self {
             Word::Bay => b"bay",
-            Word::Delay => b"delay",
-            Word::Depth => b"depth",
             Word::Format => b"format",
             Word::Card => b"card",
             Word::Leg => b"leg",
@@ -45,9 +43,48 @@ pub fn word_by(stage: Stage, letter: u8) -> Option<Word>
     }
 }
 
-// Whether two texts are the same. Codes are compared by this alone; the words of a line, which come letter by letter, are not.
+// Whether two texts are the same. Codes and the words of kinds are compared by this alone.
 pub fn same_bytes(a: &[u8], b: &[u8]) -> bool
     ensures { Decides result (a.now ≡ b.now) }
 {
     a == b
+}
+
+// Whether a word begins with these letters.
+fn is_front(letters: &[u8], word: &[u8]) -> bool
+    ensures { result ≡ is_front letters.now word.now }
+{
+    letters.len() <= word.len() && same_bytes(letters, &word[..letters.len()])
+}
+
+fn kind_letters(kind: Kind) -> &'static [u8]
+    ensures { result.now ≡ kind_text kind }
+{
+    match kind {
+        Kind::Delay => b"delay",
+        Kind::Depth => b"depth",
+    }
+}
+
+// Whether the word of some kind begins with these letters.
+pub fn begins_kind(letters: &[u8]) -> bool
+    ensures { let delay = kind_text Kind.Delay in
+        let depth = kind_text Kind.Depth in
+        result ≡ (is_front letters.now delay || is_front letters.now depth) }
+{
+    is_front(letters, kind_letters(Kind::Delay)) || is_front(letters, kind_letters(Kind::Depth))
+}
+
+// The kind whose word this is.
+pub fn kind_by(word: &[u8]) -> Option<Kind>
+    ensures { MatchOption result ((kind : Kind) → word.now ≡ kind_text kind → ⊥)
+        (λ kind. word.now ≡ kind_text kind) }
+{
+    if same_bytes(word, kind_letters(Kind::Delay)) {
+        Some(Kind::Delay)
+    } else if same_bytes(word, kind_letters(Kind::Depth)) {
+        Some(Kind::Depth)
+    } else {
+        None
+    }
 }

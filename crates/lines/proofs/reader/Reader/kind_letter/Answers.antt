@@ -1,10 +1,20 @@
--- After two letters the third chooses the kind.
-use Rattle.std.proofs.Common.{◌≡◌, subst, arith, rules}
-use Rattle.lines.specs.Rests.{after_byte, to_come, kind_choice, word_rest}
-use Rattle.lines.proofs.Steps.{kind_over}
+-- The letters that are collected have one more.
+use Rattle.std.proofs.Common.{◌≡◌, length, take, ◌||◌, codes, sym, ap, ◌∙◌, arith, rules}
+use Rattle.std.proofs.lemmas.List.{take_all}
+use Rattle.lines.specs.Rests.{after_byte, is_front}
+use Rattle.lines.specs.declared.reader.State.TheVariants.{InKind}
+use Rattle.lines.proofs.Steps.{kind_taken, kind_whole, in_state}
 use Rattle.lines.proofs.reader.Reader.kind_letter.Goals as goal
+
+pub returns-then-self-ge-KIND_LETTERS : goal.returns-then-self-ge-KIND_LETTERS
+returns-then-self-ge-KIND_LETTERS c =
+    let r = c.args.self.now in
+    let five : length r.letters ≡ 5 = search rules in
+    kind_whole (take r.at r.letters) c.args.sign (ap length (take_all r.at r.letters (omega (arith, five))) ∙ five) c.requires.letter ∙ sym (ap (λ t. after_byte t c.args.sign) (in_state r InKind c.requires.at))
 
 pub returns : goal.returns
 returns c =
-    let e : kind_choice ≡ to_come c.args.self.now = kind_over c.args.self.now c.requires.at (omega arith) in
-    subst (λ t. word_rest c.args.self.now.stage c.match-sign.self 3 ≡ after_byte t c.args.sign) e (search rules)
+    let r = c.args.self.now in
+    let five : length r.letters ≡ 5 = search rules in
+    kind_taken r c.args.sign c.begins_kind.result c.requires.at c.if-self-ge-KIND_LETTERS.false five c.requires.letter
+    (c.begins_kind.ensures ∙ ap (λ ls. is_front ls (codes "delay") || is_front ls (codes "depth")) c.collected.ensures)
