@@ -11,7 +11,7 @@ fn compile(program: &str, args: &[&str]) {
 fn main() {
     let out = env::var("OUT_DIR").unwrap();
     let object = format!("{out}/peers.o");
-    compile("c++", &["-std=c++17", "-O3", "-DNDEBUG", "-c", "src/peers.cpp", "-o", &object]);
+    compile("c++", &["-std=c++17", "-O3", "-march=x86-64-v2", "-DNDEBUG", "-c", "src/peers.cpp", "-o", &object]);
     compile("ar", &["rcs", &format!("{out}/libpeers.a"), &object]);
     println!("cargo:rustc-link-search=native={out}");
     println!("cargo:rustc-link-lib=static=peers");

@@ -250,9 +250,43 @@ def route(kind, n, cards, legs, known=None):
     return text
 
 
-def both(name, text):
-    print(f"{name}, matrix:{text}")
-    print(f"{name}, list:{text}")
+def count_rows(n, cards):
+    """The pairs of a format and a higher one from which cards by way of lower formats lead to it, found one by one."""
+    into = {f: [a for a, b in cards if b == f] for f in range(n)}
+    count = 0
+    for h in range(n):
+        seen, todo = set(), [h]
+        while todo:
+            for a in into[todo.pop()]:
+                if a not in seen:
+                    seen.add(a)
+                    if a < h:
+                        todo.append(a)
+        count += len([s for s in seen if s > h])
+    return count
+
+
+def rows(kind, n, cards):
+    return "bay 26.0" if is_loop(kind, n, cards) else str(count_rows(n, cards))
+
+
+def without(cards, barred):
+    return {pair: cost for pair, cost in cards.items() if barred not in pair}
+
+
+def one(name, text, kind, n, cards):
+    print(f"{name}:{text}")
+    print(f"  rows: {rows(kind, n, cards)}")
+    print(f"  rows under a bar: {rows(kind, n, without(cards, 1))}")
+
+
+def both(name, text, kind, n, cards):
+    one(f"{name}, matrix", text, kind, n, cards)
+    one(f"{name}, list", text, kind, n, cards)
+
+
+def turned(cards):
+    return {(b, a): cost for (a, b), cost in cards.items()}
 
 
 def draw(kind, dice, spread):
@@ -273,8 +307,9 @@ def trial(kind, number, dice):
         a = dice.below(n)
         legs.append((a, dice.below(n)))
     text = route(kind, n, cards, legs)
-    both(f"{kind} {number}", text)
-    print(f"{kind} {number}, from the outputs:{text}")
+    both(f"{kind} {number}", text, kind, n, cards)
+    # The cards were entered turned round into a register that turns them once more: the pairs are as the route sees them.
+    one(f"{kind} {number}, from the outputs", text, kind, n, turned(cards))
 
 
 def trials():
@@ -288,7 +323,7 @@ def trials():
 
 
 def show(name, kind, n, cards, legs, known=()):
-    both(name, route(kind, n, cards, legs, known))
+    both(name, route(kind, n, cards, legs, known), kind, n, cards)
 
 
 def complete(along, elsewhere):
@@ -349,6 +384,30 @@ def notes():
     print("show: bay 14.0")
 
 
+# The delays of the house table, a row for each format as the first of a pair.
+HOUSE = """\
+- 4 1 5 - - 4 -
+-1 - - - - 2 1 -
+1 - - - - - - -
+-1 - - - 2 2 - -
+- - - -1 - - - -
+- 0 - 1 - - - -
+2 - - - - - - 0
+- - - - 7 - 0 -
+"""
+
+
+def house_rows():
+    lines = [line.split() for line in HOUSE.splitlines()]
+    cards = {(a, b): int(word) for a, line in enumerate(lines) for b, word in enumerate(line) if word != "-"}
+    print("the house table:")
+    print(f"  rows: {rows('delay', 8, cards)}")
+    for barred in range(8):
+        print(f"  rows under a bar: {rows('delay', 8, without(cards, barred))}")
+    print(f"  rows turned round: {rows('delay', 8, turned(cards))}")
+    print("  rows in a short table: bay 15.0")
+
+
 def short_memory():
     # A ticket's refusals for want of memory: the register's at its first line, the route's at its end line.
     lines = ["(bay delay 2)", "(format 0 UYVY)", "(format 1 v210)", "(card (0 1) 4)", "(leg (0 1))", "(leg (1 0))", "(end)"]
@@ -362,4 +421,5 @@ def short_memory():
 play_registers()
 trials()
 fixed_cases()
+house_rows()
 short_memory()

@@ -74,6 +74,28 @@ impl Case {
         Case { kind, n, cards, legs }
     }
 
+    /// How many rows the first stage goes through: the pairs of a format and a higher one from which cards by way of lower
+    /// formats lead to it, found by a search backwards from each.
+    pub fn rows(&self) -> usize {
+        (0..self.n).map(|h| self.rows_at(h)).sum()
+    }
+
+    fn rows_at(&self, h: usize) -> usize {
+        let mut seen = vec![false; self.n];
+        let mut todo = vec![h];
+        while let Some(here) = todo.pop() {
+            for card in self.cards.iter().filter(|card| card.to == here) {
+                if !seen[card.from] {
+                    seen[card.from] = true;
+                    if card.from < h {
+                        todo.push(card.from);
+                    }
+                }
+            }
+        }
+        (h + 1..self.n).filter(|&s| seen[s]).count()
+    }
+
     /// n * n numbers, row by row, with this one where there is no card.
     pub fn matrix(&self, none: i32) -> Vec<i32> {
         let mut matrix = vec![none; self.n * self.n];

@@ -2,6 +2,7 @@
 //!
 //!     bench                                     the tables
 //!     bench one PEER/KIND/N/CARDS/LEGS TIMES    so many calls, to count their instructions; CARDS is sparse or complete
+//!     bench rows                                how many rows the first stage goes through, and the time of a route
 //!     bench ticket                              writes the largest ticket
 //!     bench program PROGRAM TICKET              times whole runs of the program on it
 
@@ -185,6 +186,24 @@ fn one(name: &str, times: usize) {
     }
 }
 
+// With few cards most rows of the first stage have nothing to pass on.
+fn rows() {
+    println!("rows that the first stage goes through, of 2016 at 64 formats, and nanoseconds of a route with one leg");
+    println!("cards     rows       delay       depth");
+    for percent in [2, 10, 50, 100] {
+        let cards = (64 * 63 * percent + 50) / 100;
+        let cases = [Kind::Delay, Kind::Depth].map(|kind| Case::new(kind, 64, cards, 1));
+        let rows = cases[0].rows();
+        let mut runs = cases.each_ref().map(|case| Run::new("1", peer("ours", case)));
+        for _ in 0..ROUNDS {
+            for run in &mut runs {
+                run.nanoseconds = run.nanoseconds.min(seconds(&mut run.peer, run.calls) / run.calls as f64 * 1e9);
+            }
+        }
+        println!("{percent:3} % {rows:8} {:11.0} {:11.0}", runs[0].nanoseconds, runs[1].nanoseconds);
+    }
+}
+
 /// 64 formats, 512 cards and 32 legs.
 fn largest() -> Case {
     Case::new(Kind::Delay, 64, 512, 32)
@@ -221,8 +240,9 @@ fn main() {
     match args[..] {
         [] => tables(),
         ["one", name, times] => one(name, times.parse().unwrap()),
+        ["rows"] => rows(),
         ["ticket"] => print!("{}", largest().ticket()),
         ["program", path, ticket] => program(path, ticket),
-        _ => panic!("bench [one NAME TIMES | ticket | program PROGRAM TICKET]"),
+        _ => panic!("bench [one NAME TIMES | rows | ticket | program PROGRAM TICKET]"),
     }
 }

@@ -89,6 +89,12 @@ module _ {C : Type 0} (K : Kind C) (L : Lawful K.algebra) (n : ℕ) (card : ℕ 
       both : (((k : ℕ) × (k < h) × LookHits K.algebra card h k) → GainsAt K.algebra card h) × (((k : ℕ) → k < h → LookHits K.algebra card h k → ⊥) → GainsAt K.algebra card h → ⊥)
       both = look_finds L n card sound h calm (λ k l. (_, there k l)) (λ k l. (_, back k l))
 
+  -- a cost to the pivot from a higher format
+  pub first_there : (cells : List (Cell C)) (h s : ℕ) → h < s → s < n → FirstTo K n card cells h → LowLeast K.algebra card h s h (least_in K n cells s h)
+  first_there cells h s l ls to =
+      let e : min (min s h) h ≡ h = omega arith in
+      subst (λ j. LowLeast K.algebra card j s h (least_in K n cells s h)) e (to s h ls (omega arith) (λ d. absurd (omega arith)))
+
   pub first_all : (cells : List (Cell C)) (h : ℕ) → n ≤ h → FirstTo K n card cells h → FirstDone K n card cells
   first_all cells h l to s t ls lt ne =
       let e : min (min s t) h ≡ min s t = omega arith in

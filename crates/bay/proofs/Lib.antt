@@ -3,6 +3,7 @@ pub mod Tights
 pub mod Searches
 pub mod Sheets
 pub mod Passes
+pub mod Counts
 pub mod PivotSteps
 pub mod Columns
 pub mod Levels

@@ -15,6 +15,8 @@ use Rattle.walks.specs.Levels.{upto}
 use Rattle.bay.specs.Solved.{Settled, Solved, Back, Turns}
 use Rattle.bay.specs.declared.cells.Cell.{Cell}
 use Rattle.walks.proofs.Runs.{Runs, to_runs, of_runs, path_from, path_of}
+use Rattle.bay.specs.declared.elimination.Found.{Found}
+use Rattle.bay.specs.declared.elimination.Found.TheVariants.{LoopAt, NoLoop}
 use Rattle.walks.proofs.Least.{at_most_under, at_most_front, least_serves}
 use Rattle.walks.proofs.Cut.{distinct_front, least_is_near}
 use Rattle.bay.proofs.Follow.{follows_ends}
@@ -30,10 +32,10 @@ card_near K L n (Some y) few admitted x e =
     subst (K.algebra.Within (suc n)) d (L.within_more 1 (suc n) (K.value y) (omega arith) (omega arith) (L.admitted_within (K.value y) admitted))
 
 -- the search up to h finds no closed walk, where no look below h found one
-pub solved_settled : {C : Type 0} (K : Kind C) → Lawful K.algebra → (held : Meaning C) (n h : ℕ) (cells : List (Cell C)) (r : Option ℕ) →
+pub solved_settled : {C : Type 0} (K : Kind C) → Lawful K.algebra → (held : Meaning C) (n h : ℕ) (cells : List (Cell C)) (r : Found) →
     Looked K.algebra (standing (meant K held)) held.size (Some h) → Solved K n (upto h (standing (meant K held))) cells r → Settled K n (upto h (standing (meant K held))) cells
-solved_settled K L held n h cells None found s = s
-solved_settled K L held n h cells (Some k) (inside, gains, calm) (l, g, lower) = absurd (upto_calm L h (standing (meant K held)) calm (k, g.0, g.2, g.3))
+solved_settled K L held n h cells (NoLoop rows) found s = s.0
+solved_settled K L held n h cells (LoopAt k) (inside, gains, calm) (l, g, lower) = absurd (upto_calm L h (standing (meant K held)) calm (k, g.0, g.2, g.3))
 
 -- where no closed walk undercuts the unit, none at any format does
 pub calmed_all : (A : Algebra) (card : ℕ → ℕ → Option A.Value) (n : ℕ) → (Gains A card → ⊥) → NoLoopBelow A card n

@@ -1,18 +1,27 @@
 -- The stages that bring a table to least costs: what one pass over it does, and what each stage promises.
 -- A pass by way of k sets cells (s, t) to the better of their own cost and the combination of those of (s, k) and (k, t).
 -- For one goal, the diagonal cell (v, v) is brought to the least cost from v to the goal.
-use Rattle.std.specs.Prelude.{◌≡◌, ℕ, suc, ◌+◌, ◌*◌, ◌<◌, ◌≤◌, min, ◌⊎◌, List, length, Some, None, Option, ◌≢◌}
+use Rattle.std.specs.Prelude.{◌≡◌, ℕ, suc, Bool, true, Contains, AllPairs, ◌+◌, ◌*◌, ◌<◌, ◌≤◌, min, ◌⊎◌, List, length, Some, None, Option, ◌≢◌}
 use Rattle.costs.specs.declared.Cost.{Ghosts as Kind}
 use Rattle.costs.specs.Algebra.{Algebra, reach}
 use Rattle.walks.specs.Levels.{Near, ByWay, UndercutUnit, Looked}
 use Rattle.walks.specs.Walk.{LeastOf, Least, LowLeast, GainsAt}
 use Rattle.walks.specs.Theorems.{Either, Joined}
 use Rattle.bay.specs.Cells.{Kept, least_in, Each}
+use Rattle.bay.specs.RowsPassed.{RowsPassed}
 use Rattle.bay.specs.declared.cells.Cell.{Cell}
+use Rattle.bay.specs.declared.elimination.Found.{Found}
+use Rattle.bay.specs.declared.elimination.Found.TheVariants.{LoopAt, NoLoop}
 
 -- the cells in the rows from r to r' and the columns from c to c'
 abbrev pub Block : ℕ → ℕ → ℕ → ℕ → ℕ → ℕ → Type 0
 Block r r' c c' s t = (r ≤ s) × (s < r') × (c ≤ t) × (t < c')
+
+-- so many numbers from low to high have the property: there is a list of them, each once
+abbrev pub Tally : (ℕ → Bool) → ℕ → ℕ → ℕ → Type 0
+Tally p low high k =
+    (rows : List ℕ) × AllPairs (λ i j. i < j) rows × ((i : ℕ) → Contains rows i → (low ≤ i) × (i < high) × (p i ≡ true)) ×
+    ((i : ℕ) → low ≤ i → i < high → p i ≡ true → Contains rows i) × (k ≡ length rows)
 
 module _ {C : Type 0} (K : Kind C) (n : ℕ) where
   -- a pass by way of k can combine: the table has its cells, and the costs to and from k are near
@@ -63,7 +72,8 @@ module _ {C : Type 0} (K : Kind C) (n : ℕ) where
     abbrev pub ThirdDone : ℕ → Type 0
     ThirdDone goal = (v : ℕ) → v < n → (v ≢ goal) → Least K.algebra card v goal (least_in K n cells v v)
 
-    -- the first format at which a closed walk through lower ones undercuts the unit; or there is none, and each cell has its cost
-    abbrev pub FirstFound : Option ℕ → Type 0
-    FirstFound (Some h) = Looked K.algebra card n (Some h)
-    FirstFound None = Looked K.algebra card n None × FirstDone
+    -- the first format at which a closed walk through lower ones undercuts the unit; or there is none, each cell has its cost, and
+    -- so many rows had something to pass on
+    abbrev pub FirstFound : Found → Type 0
+    FirstFound (LoopAt h) = Looked K.algebra card n (Some h)
+    FirstFound (NoLoop k) = Looked K.algebra card n None × FirstDone × RowsPassed K.algebra card k

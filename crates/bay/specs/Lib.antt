@@ -9,6 +9,7 @@ pub mod Routes
 pub mod Buffers
 pub mod Routing
 pub mod Calls
+pub mod RowsPassed
 pub mod Runs
 pub mod Reversal
 pub mod Cells

@@ -1,6 +1,6 @@
 -- What is found of a register's cards in a table of cells: the costs of the first stage, or a loop that undercuts the unit.
 -- `card` is the cost of the card between two formats, by what it means.
-use Rattle.std.specs.Prelude.{◌≡◌, ℕ, ◌<◌, ◌≤◌, true, cond, ◌&&◌, List, IfSome, Some, None, Option, nat_le, nat_lt}
+use Rattle.std.specs.Prelude.{◌≡◌, ℕ, ◌<◌, ◌≤◌, true, cond, ◌&&◌, List, IfSome, Some, Option, nat_le, nat_lt}
 use Rattle.std.specs.Option.{option_map}
 use Rattle.costs.specs.declared.Cost.{Ghosts as Kind}
 use Rattle.costs.specs.Algebra.{Algebra}
@@ -11,7 +11,10 @@ use Rattle.registers.specs.Meaning.{most_formats}
 use Rattle.walks.specs.Levels.{Looked, UndercutUnit, upto}
 use Rattle.bay.specs.Eliminated.{FirstDone, ThirdDone}
 use Rattle.bay.specs.Sheet.{row_of, put_row}
+use Rattle.bay.specs.RowsPassed.{RowsPassed}
 use Rattle.bay.specs.declared.cells.Cell.{Cell}
+use Rattle.bay.specs.declared.elimination.Found.{Found}
+use Rattle.bay.specs.declared.elimination.Found.TheVariants.{LoopAt, NoLoop}
 
 module _ (A : Algebra) where
   -- some loop at h undercuts the unit, and row 0 of the sheet has it
@@ -34,10 +37,11 @@ module _ {C : Type 0} (K : Kind C) where
       pub cards : cards_in K n cells ≡ card
       pub low : FirstDone K n card cells
 
-    -- what the search has found: the lowest format at which a closed walk through lower ones undercuts the unit, or none such
-    abbrev pub Solved : Option ℕ → Type 0
-    Solved (Some h) = Looked K.algebra card n (Some h)
-    Solved None = Settled
+    -- what the search has found: the lowest format at which a closed walk through lower ones undercuts the unit; or none such, and
+    -- so many rows had something to pass on
+    abbrev pub Solved : Found → Type 0
+    Solved (LoopAt h) = Looked K.algebra card n (Some h)
+    Solved (NoLoop k) = Settled × RowsPassed K.algebra card k
 
     -- the card from h to v and the least cost back, which the diagonal cell of v has, undercut the unit together
     abbrev pub Turns : ℕ → ℕ → Type 0

@@ -9,6 +9,7 @@ ghost use Rattle.bay.specs.Plain.{EndsBelow, ends};
 
 use crate::calls::{Answer, CHAIN_BYTES, Call};
 use crate::cells::Cell;
+use crate::elimination::Found;
 use crate::fault::BayFault;
 use crate::judge::{judge_room, judge_run};
 use crate::legs::{Leg, Legs, MOST_LEGS, Note};
@@ -161,12 +162,12 @@ impl<R: Register> Bay<R> {
         let n = self.register.size();
         let mut ticks = [false; MOST_FORMATS];
         match solve(&self.register, table) {
-            Some(h) => {
+            Found::LoopAt(h) => {
                 write_loop(&self.register, table, h, &mut ticks, chains);
                 self.legs.open_all();
                 Err(BayFault::Loop)
             }
-            None => {
+            Found::NoLoop(_) => {
                 let routed = self.legs.len();
                 let mut writer = RouteWriter {
                     legs: &mut self.legs,

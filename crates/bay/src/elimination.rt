@@ -1,13 +1,13 @@
 // Elimination (Floyd–Warshall): a table of the costs of cards is brought, format after format, to least costs through lower formats,
 // unless a negative cycle comes up: a closed walk that undercuts the unit.
 // The table is a slice with n beside it, as its callers hold them; a format is its number, and where its cells lie is computed.
-ghost use Rattle.std.specs.Prelude.{◌≡◌, ℕ, ◌+◌, ◌<◌, ◌≤◌, true, false, Decides, Some, ◌≢◌};
+ghost use Rattle.std.specs.Prelude.{◌≡◌, ℕ, ◌+◌, ◌<◌, ◌≤◌, true, false, Decides, Some, ◌≢◌, is_some};
 ghost use Rattle.std.specs.Option.{option_map};
 ghost use Rattle.walks.specs.Levels.{Joinable, UndercutUnit};
 ghost use Rattle.walks.specs.Theorems.{Either};
 ghost use Rattle.walks.specs.Walk.{LeastOf};
 ghost use Rattle.bay.specs.Cells.{Each, Kept, Laid, cards_in, least_in};
-ghost use Rattle.bay.specs.Eliminated.{Block, FirstFound, PivotReady};
+ghost use Rattle.bay.specs.Eliminated.{Block, FirstFound, PivotReady, Tally};
 
 use crate::Cell;
 use crate::cells::cell_at;
@@ -89,35 +89,43 @@ impl<C: Cost> Pivot<'_, C> {
         cell.least = better(cell.least, one, two);
     }
 
-    // Every cell of `s` and a format from `low` to `high`, by way of the pivot, which is outside of them.
-    fn pass_row(&mut self, s: usize, low: usize, high: usize)
+    // Every cell of `s` and a format from `low` to `high`, by way of the pivot, which is outside of them. A row with no cost to
+    // the pivot has nothing to pass on, and is left at once: answers whether it has one.
+    fn pass_row(&mut self, s: usize, low: usize, high: usize) -> bool
         requires row { (s < self.old.n) × (s ≢ self.old.at) }
         requires columns { (low ≤ high) × (high ≤ self.old.n)
             × ((low ≤ self.old.at) → (self.old.at < high) → ⊥) }
-        ensures { Passed (Block s (s + 1) low high) self.old self.new }
+        ensures passed { Passed (Block s (s + 1) low high) self.old self.new }
+        ensures answer { result ≡ is_some (least_of self.old s self.old.at) }
     {
         let at = self.at;
         let first = self.least(s, at);
         if first.is_none() {
-            return;
+            return false;
         }
         for t in low..high {
             let second = self.least(at, t);
             self.improve(first, second, s, t);
         }
+        true
     }
 
     // Every cell of two formats from `low` to `high`, by way of the pivot, which is outside of them: the diagonal cells too,
-    // which belong to no pair, since whole rows take less time. Inlined, so that its loops keep the pivot in registers.
+    // which belong to no pair, since whole rows take less time. Answers how many rows have a cost to the pivot. Inlined, so that
+    // its loops keep the pivot in registers.
     #[inline(always)]
-    fn pass(&mut self, low: usize, high: usize)
+    fn pass(&mut self, low: usize, high: usize) -> usize
         requires square { (low ≤ high) × (high ≤ self.old.n)
             × ((low ≤ self.old.at) → (self.old.at < high) → ⊥) }
-        ensures { Passed (Block low high low high) self.old self.new }
+        ensures passed { Passed (Block low high low high) self.old self.new }
+        ensures rows { Tally (λ s. is_some (least_of self.old s self.old.at)) low high result }
+        ensures few { result ≤ high }
     {
+        let mut count = 0;
         for s in low..high {
-            self.pass_row(s, low, high);
+            count += usize::from(self.pass_row(s, low, high));
         }
+        count
     }
 
     // Whether the costs from the pivot to `k` and back undercut the unit.
@@ -137,20 +145,29 @@ impl<C: Cost> Pivot<'_, C> {
     }
 }
 
+// What the first stage finds: the first format at which a closed walk through lower ones undercuts the unit; or that there is none,
+// and how many rows it went through.
+#[derive(Clone, Copy)]
+pub(crate) enum Found {
+    LoopAt(usize),
+    NoLoop(usize),
+}
+
 // The first stage: the first format at which a closed walk through lower ones undercuts the unit, or every cell's least cost
 // over inner formats below both of its own.
-pub(crate) fn first_stage<C: Cost>(cells: &mut [Cell<C>], n: usize) -> Option<usize>
+pub(crate) fn first_stage<C: Cost>(cells: &mut [Cell<C>], n: usize) -> Found
     requires laid { Laid C.Cost n cells.old }
     requires fresh { Each C.Cost n cells.old (λ s t o. o ≡ cards_in C.Cost n cells.old s t) }
     ensures kept { Kept n cells.old cells.new }
     ensures found { FirstFound C.Cost n (cards_in C.Cost n cells.old) cells.new result }
 {
+    let mut rows = 0;
     for h in 0..n {
         let mut pivot = Pivot { cells, n, at: h };
         if pivot.looks() {
-            return Some(h);
+            return Found::LoopAt(h);
         }
-        pivot.pass(h + 1, n);
+        rows += pivot.pass(h + 1, n);
     }
-    None
+    Found::NoLoop(rows)
 }

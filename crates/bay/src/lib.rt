@@ -24,3 +24,4 @@ pub use fault::BayFault;
 pub use law::{from_outputs, one_by_one};
 pub use legs::{Ends, Leg, MOST_LEGS, Note};
 pub use rows::ROW;
+pub use survey::rows_passed;

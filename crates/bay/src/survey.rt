@@ -2,15 +2,17 @@
 // formats, unless there is a negative cycle.
 ghost use Rattle.std.specs.Prelude.{◌≡◌, ℕ, ◌*◌, ◌/◌, ◌%◌, ◌<◌, ◌≤◌, true, length, IfSome, slice_index_or};
 ghost use Rattle.std.specs.Option.{option_map};
-ghost use Rattle.registers.specs.Meaning.{most_formats, stands};
+ghost use Rattle.registers.specs.Meaning.{meant, most_formats, stands};
 ghost use Rattle.walks.specs.Levels.{upto};
 ghost use Rattle.walks.specs.Theorems.{Sound};
 ghost use Rattle.bay.specs.Buffers.{Beyond};
 ghost use Rattle.bay.specs.Cells.{Each, Kept, Laid, cards_in, empty};
+ghost use Rattle.bay.specs.RowsPassed.{RowsAnswer};
 ghost use Rattle.bay.specs.Solved.{Fresh, Solved};
 
 use crate::cells::Cell;
-use crate::elimination::first_stage;
+use crate::elimination::{Found, first_stage};
+use crate::fault::BayFault;
 use costs::Cost;
 use registers::Register;
 
@@ -57,7 +59,7 @@ fn load<R: Register>(register: &R, cells: &mut [Cell<R::Cost>], n: usize, high: 
 
 // Brings a table in which each cell's least cost is its card's to least costs over formats below both of a cell's own, unless a
 // closed walk undercuts the unit: then answers the lowest format at which one through lower formats does.
-fn settle<C: Cost>(cells: &mut [Cell<C>], n: usize) -> Option<usize>
+fn settle<C: Cost>(cells: &mut [Cell<C>], n: usize) -> Found
     requires laid { Laid C.Cost n cells.old }
     requires fresh { Each C.Cost n cells.old (λ s t o. o ≡ cards_in C.Cost n cells.old s t) }
     ensures kept { Kept n cells.old cells.new }
@@ -72,7 +74,7 @@ pub(crate) fn solve_upto<R: Register>(
     cells: &mut [Cell<R::Cost>],
     n: usize,
     high: usize,
-) -> Option<usize>
+) -> Found
     requires room { n * n ≤ length cells.old }
     requires size { n ≡ (R.holds register.now).size }
     requires few { (0 < n) × (n ≤ most_formats) }
@@ -87,7 +89,7 @@ pub(crate) fn solve_upto<R: Register>(
 
 // Brings the register's cards to least costs over formats below both of a cell's own in the table of cells, unless a closed
 // walk undercuts the unit: then answers the lowest format at which one through lower formats does.
-pub(crate) fn solve<R: Register>(register: &R, cells: &mut [Cell<R::Cost>]) -> Option<usize>
+pub(crate) fn solve<R: Register>(register: &R, cells: &mut [Cell<R::Cost>]) -> Found
     requires room { let n = (R.holds register.now).size in n * n ≤ length cells.old }
     ensures beyond { let n = (R.holds register.now).size in Beyond (n * n) cells.old cells.new }
     ensures sound { let m = R.holds register.now in
@@ -97,4 +99,24 @@ pub(crate) fn solve<R: Register>(register: &R, cells: &mut [Cell<R::Cost>]) -> O
 {
     let n = register.size();
     solve_upto(register, cells, n, n)
+}
+
+// How many rows the first stage goes through over the register's cards: the pairs of a format h and of a higher one from which a
+// walk with lower inner formats leads to h. It needs no legs, and it does not matter what the table holds; its n × n cells are
+// then free. Where a closed walk undercuts the unit, that is told instead.
+pub fn rows_passed<R: Register>(
+    register: &R,
+    table: &mut [Cell<R::Cost>],
+) -> Result<usize, BayFault>
+    ensures { let m = meant R.Cost.Cost (R.holds register.now) in
+        RowsAnswer R.Cost.Cost m table.old table.new result }
+{
+    let n = register.size();
+    if table.len() < n * n {
+        return Err(BayFault::TableShort);
+    }
+    match solve(register, table) {
+        Found::LoopAt(_) => Err(BayFault::Loop),
+        Found::NoLoop(rows) => Ok(rows),
+    }
 }

@@ -160,8 +160,8 @@ impl<C: Cost> RouteWriter<'_, C> {
         requires clear { Clear sheet.old }
         ensures lent { SameMemory self.old self.new }
         ensures routed { (d : C) →
-            LeastChains C.algebra (cards_in C.Cost n table.old) (map ends (booked self.old.legs.now))
-            (row_at self.new.chains.now)
+            LeastChains C.algebra (cards_in C.Cost n table.old)
+            (map ends (booked self.old.legs.now)) (row_at self.new.chains.now)
             (λ k. C.value (slice_index_or self.new.costs.now k d)) }
         ensures chains { let bytes = row_bytes * number_of self.old in
             Beyond bytes self.old.chains.now self.new.chains.now }

@@ -1,7 +1,7 @@
 -- A list: what its entries give, and how many give one.
 use Rattle.std.proofs.Common.{◌≡◌, ℕ, zero, suc, ◌+◌, ◌-◌, ◌<◌, ◌≤◌, Bool, true, false, cond, not, ◌&&◌, ⊎_elim, eqb, List, [], ◌∷◌, ◌++◌, length, get_or, take, drop, set, replicate, is_some, Some, None, Option, Result, Ok, Err, sym, refl, ap, ◌∙◌, subst, add-one, arith}
 use mathlib.Core.Path.{fun_ext}
-use Rattle.std.specs.Option.{option_map, IfSome}
+use Rattle.std.specs.Option.{option_map}
 use Rattle.std.specs.Result.{MatchResult, result_ok}
 use Rattle.std.proofs.lemmas.Option.{none-some, same_Some}
 use Rattle.std.specs.List.{insert, remove}
@@ -165,22 +165,6 @@ module _ {C : Type 0} (admits : C → Bool) (n : ℕ) where
         own (Some e) s h =
             let is = (lives (Some e) s).2 in
             grind arith
-
-    pub held_admitted : IfSome (first_cost admits n es a b) (λ x. admits x ≡ true)
-    held_admitted = subst (λ o. IfSome o (λ x. admits x ≡ true)) (sym found_cost) (own (get_or es i None))
-      where
-        own : (x : Option (Entry C)) → IfSome (cost_for admits n x a b) (λ x. admits x ≡ true)
-        own None = tt
-        own (Some e) = subst (λ o. IfSome o (λ x. admits x ≡ true)) (two (possible n e.from e.to && admits e.cost)) (by_live (possible n e.from e.to && admits e.cost) (eqb e.from a && eqb e.to b) (λ h. (and_parts (possible n e.from e.to) (admits e.cost) h).1))
-          where
-            two : (t : Bool) → cond t (cond (eqb e.from a && eqb e.to b) (Some e.cost) None) None ≡ cost_of admits n (cond t (Some e) None) a b
-            two true = refl
-            two false = refl
-
-            by_live : (t s : Bool) → (t ≡ true → admits e.cost ≡ true) → IfSome (cond t (cond s (Some e.cost) None) None) (λ x. admits x ≡ true)
-            by_live false s h = tt
-            by_live true false h = tt
-            by_live true true h = h refl
 
     -- it has no cost for another pair
     elsewhere : (c d : ℕ) → (eqb a c && eqb b d) ≡ false → cost_for admits n (get_or es i None) c d ≡ None

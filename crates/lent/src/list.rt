@@ -1,10 +1,10 @@
 // The list: a register that takes an entry for each card, in memory that its maker lends.
-ghost use Rattle.std.specs.Prelude.{◌≡◌, ℕ, ◌<◌, ◌≤◌, ◌+◌, ◌-◌, true, length, is_some, IfSome, Some, MatchResult, slice_index_or};
+ghost use Rattle.std.specs.Prelude.{◌≡◌, ℕ, ◌<◌, ◌≤◌, true, length, IfSome, Some, MatchResult};
 ghost use Rattle.registers.specs.Fault.{first_cause, refusal, after};
-ghost use Rattle.registers.specs.Meaning.{possible, entered, withdrawn, enter_causes, withdraw_causes};
+ghost use Rattle.registers.specs.Meaning.{entered, withdrawn, enter_causes, withdraw_causes};
 ghost use Rattle.costs.specs.Kind.{admits};
 ghost use Rattle.lent.specs.Lent.{begun};
-ghost use Rattle.lent.specs.List.{entries_fit, list_fits, list_causes, cost_for, first_cost, is_for, is_lower, listed, list_cleared, shifted_up, shifted_down, with_entry, without, FirstLive, Rising, EmptyFrom, InOrder, FoundAt, NoneAt};
+ghost use Rattle.lent.specs.List.{entries_fit, list_fits, list_causes, first_cost, is_for, is_lower, listed, list_cleared, shifted_up, shifted_down, with_entry, without, FirstLive, Rising, EmptyFrom, InOrder, FoundAt, NoneAt};
 
 use crate::memory::{judge_memory, nearest_size, size_fits};
 use costs::Cost;

@@ -10,7 +10,7 @@ use costs::Delay;
 
 const HOUSE_SIZE: usize = 8;
 
-// No card. A rule of the project keeps the table one flat constant array of plain numbers, so a number stands for none.
+// No card: the table is one flat array of numbers, so a number stands for none.
 const NO: i32 = i32::MIN;
 
 // Half lines of delay, row by row: a row for each format as `from`, a column for each as `to`.
@@ -42,7 +42,8 @@ fn number_at(place: usize) -> i32
 fn delay_at(place: usize) -> Option<Delay>
     requires { place < house_places }
     ensures value { result ≡ option_map delayed (slice_index_or house_cards place None) }
-    ensures admitted { IfSome result (λ x. nat_le (unsigned_abs x.half_lines) most_half_lines ≡ true) }
+    ensures admitted { IfSome result (λ x.
+        nat_le (unsigned_abs x.half_lines) most_half_lines ≡ true) }
 {
     let half_lines = number_at(place);
     if half_lines == NO {

@@ -7,12 +7,14 @@ mod kind;
 mod play;
 mod random;
 mod route;
+mod rows;
 mod short;
 
 use crate::dice::Dice;
 use crate::fixed::fixed_cases;
 use crate::play::{Change, play, play_all};
 use crate::random::random_trials;
+use crate::rows::house_rows;
 use crate::short::short_memory;
 use costs::Delay;
 use lent::{Entry, List, Matrix};
@@ -63,6 +65,7 @@ fn run(rt: &HostRuntime) -> anyhow::Result<()> {
     play_registers(rt)?;
     random_trials(rt)?;
     fixed_cases(rt)?;
+    house_rows(rt)?;
     short_memory(rt)
 }
 

@@ -1,8 +1,9 @@
 // Routes legs over the same cards in a matrix and in a list, and checks what the bay wrote against the cards.
 use crate::kind::Kind;
+use crate::rows::print_rows;
 use bay::{Answer, Bay, Call, Cell, Ends, Leg, Note, ROW};
 use lent::{Entry, List, Matrix};
-use registers::{Over, Register, Turned};
+use registers::{Bars, Over, Register, Turned};
 use std::alloc::{AllocError, Global};
 
 #[derive(Clone, Copy)]
@@ -284,7 +285,9 @@ fn settle<C: Kind, R: Register<Cost = C> + Drop>(
         Answer::Looped if noted && is_loop(&register, &sheets) => println!(rt; " loop")?,
         _ => println!(rt; " bad")?,
     }
-    Ok(())
+    print_rows(rt, "rows", &register, job.n)?;
+    let barred = Over::new(register, Bars { bits: 2 });
+    print_rows(rt, "rows under a bar", &barred, job.n)
 }
 
 // Does a job over a matrix, and over a list with an entry for each card.

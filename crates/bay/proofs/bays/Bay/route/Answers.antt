@@ -44,8 +44,8 @@ ends_left : (n : ℕ) (was now : List Leg) (row : ℕ → List ℕ) → length n
     All (EndsBelow n) (map ends was) → All (EndsBelow n) (map ends now)
 ends_left n was now row long notes inside = inside_same _ _ _ _ refl (ap (map ends) (noted_all row was now long notes) ∙ ends_noted 0 row was) inside
 
-pub invariant_of-self-in-None : goal.invariant_of-self-in-None
-invariant_of-self-in-None g c =
+pub invariant_of-self-in-NoLoop : goal.invariant_of-self-in-NoLoop
+invariant_of-self-in-NoLoop g c =
     let was = legs c.args.self.now in
     let now = slots_of c.write_routes.new.self in
     let wrote = c.write_routes.ensures in
@@ -55,14 +55,14 @@ invariant_of-self-in-None g c =
           (ends_left n was now.legs (row_at now.chains) wrote.legs wrote.notes c.args.self.now.inside) (search rules);
     }
 
-pub returns-in-Some : goal.returns-in-Some
-returns-in-Some g c =
+pub returns-in-LoopAt : goal.returns-in-LoopAt
+returns-in-LoopAt g c =
     let p = plain c.args.self.now in
     let n = p.register.size in
     let enough = room_enough (length p.legs) n (length c.args.table.now) (length c.args.costs.now) (length c.args.chains.now) c.in_ok-judge_route.ensures in
-    let told = c.in-Some.ensures in
+    let told = c.in-LoopAt.ensures in
     let few : n ≤ most_formats = omega (arith, c.size-n.ensures.value, c.size-n.ensures.bounds.1) in
-    let row = loop_in_row g.met.R.Cost.Cost.lawful (standing p.register) n told.sound few c.in-Some.h
+    let row = loop_in_row g.met.R.Cost.Cost.lawful (standing p.register) n told.sound few c.in-LoopAt.h
     c.args.chains.now c.write_loop.new.chains (omega (arith, enough.rows, enough.some)) c.write_loop.ensures.written in
     record {
       answer = inr (inl (record {
@@ -84,23 +84,23 @@ returns-in-Some g c =
 slots_back : {X Y Z : Type 0} (P : X → Y → Z → Type 0) {x x' : X} {y y' : Y} {z z' : Z} → P x y z → x' ≡ x → y' ≡ y → z' ≡ z → P x' y' z'
 slots_back P {x' = x'} {y' = y'} {z = z} p e f k = subst (P x' y') (sym k) (subst₂ (λ x y. P x y z) (sym e) (sym f) p)
 
-pub returns-in-None : goal.returns-in-None
-returns-in-None g c =
+pub returns-in-NoLoop : goal.returns-in-NoLoop
+returns-in-NoLoop g c =
     let was = legs c.args.self.now in
     let now = slots_of c.write_routes.new.self in
     let K = g.R.Cost.Cost in
     let p = plain c.args.self.now in
     let n = p.register.size in
     let before = buffers c.args.table.now c.args.costs.now c.args.chains.now in
-    let told = c.in-None.ensures in
+    let told = c.in-NoLoop.ensures in
     let wrote = c.write_routes.ensures in
     let count = sym (length-map was ends) in
-    let cards = settled_cards K n c.size-n.result c.size-n.ensures.value (standing p.register) c.solve.new.cells told.solved in
+    let cards = settled_cards K n c.size-n.result c.size-n.ensures.value (standing p.register) c.solve.new.cells told.solved.0 in
     let noted = noted_all (row_at now.chains) was now.legs wrote.legs wrote.notes in
     let granted : Granted p was now.legs before (buffers c.write_routes.new.table now.costs now.chains) (Ok c.len-routed.result) = record {
       no_cause = sym c.in_ok-judge_route.ensures;
       answers = ap Ok (c.len-routed.ensures.value ∙ count);
-      no_loop = told.solved.calm;
+      no_loop = told.solved.0.calm;
       routed = λ d. subst (λ k. LeastChains K.algebra k p.legs (row_at now.chains) (λ j. K.value (get_or now.costs j d))) cards (wrote.routed d);
       notes = noted;
       wrote = record {
