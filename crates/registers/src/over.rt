@@ -1,7 +1,7 @@
 // A register over another one. There is one such register for all, and a view says what is seen of the one below.
-ghost use Rattle.std.specs.Prelude.{◌≡◌, ℕ, Bool, true};
+ghost use Rattle.std.specs.Prelude.{◌≡◌, ℕ, Bool, true, is_some};
 ghost use Rattle.registers.specs.Fault.{after, first_cause, refusal};
-ghost use Rattle.registers.specs.Meaning.{entered, enter_causes, meant, withdrawn, withdraw_causes};
+ghost use Rattle.registers.specs.Meaning.{entered, enter_causes, entry_causes, meant, pair_causes, withdrawn, withdraw_causes};
 ghost use Rattle.registers.specs.View.{pair_below, viewed};
 ghost use Rattle.costs.specs.Kind.{admits};
 
@@ -74,6 +74,9 @@ impl<R: Register, V: View> Register for Over<R, V> {
     fn enter(&mut self, from: Format, to: Format, cost: R::Cost) -> Result<(), RegisterFault>
         ensures answer { let m = meant R.Cost.Cost (shown R.Register V.View self.old) in
             refusal result ≡ first_cause (enter_causes m from to (admits R.Cost.Cost cost)) }
+        ensures judged { let n = (R.holds self.old.below).size in
+            is_some (first_cause (entry_causes n from to (admits R.Cost.Cost cost))) ≡ true →
+            self.new.below ≡ self.old.below }
         ensures spared { V.shuts self.old.view from to ≡ true → self.new.below ≡ self.old.below }
         ensures below { let pair = pair_below (V.turned self.old.view) from to in
             let m = meant R.Cost.Cost (R.holds self.old.below) in
@@ -95,6 +98,8 @@ impl<R: Register, V: View> Register for Over<R, V> {
     fn withdraw(&mut self, from: Format, to: Format) -> Result<(), RegisterFault>
         ensures answer { let m = meant R.Cost.Cost (shown R.Register V.View self.old) in
             refusal result ≡ first_cause (withdraw_causes m from to) }
+        ensures judged { let n = (R.holds self.old.below).size in
+            is_some (first_cause (pair_causes n from to)) ≡ true → self.new.below ≡ self.old.below }
         ensures spared { V.shuts self.old.view from to ≡ true → self.new.below ≡ self.old.below }
         ensures below { let pair = pair_below (V.turned self.old.view) from to in
             let m = meant R.Cost.Cost (R.holds self.old.below) in
