@@ -1,8 +1,9 @@
 -- What the methods of the legs do to the list that is held, the first `count` of the array.
-use Rattle.std.proofs.Common.{◌≡◌, ℕ, suc, ◌+◌, ◌-◌, ◌<◌, ◌≤◌, Bool, true, false, List, ◌++◌, length, get_or, set, take, drop, sym, ap, ◌∙◌, subst, add-one, arith, below_more, length-set, length-append, length-drop, length-take-le, get_or-take}
+use Rattle.std.proofs.Common.{◌≡◌, ℕ, suc, ◌+◌, ◌-◌, ◌<◌, ◌≤◌, ◌⊎◌, inl, inr, Bool, true, false, List, ◌++◌, length, get_or, set, take, drop, sym, ap, ◌∙◌, subst, add-one, arith, below_more, length-set, length-append, length-drop, length-take-le, get_or-take}
 use lib.ListN.{length-map}
 use Rattle.std.proofs.lemmas.List.Edits.{take-paste}
-use Rattle.std.proofs.lemmas.List.{drop-take, same_lists, get_or-map, get_or-set_same, get_or_append_left, get_or_default, take-take}
+use Rattle.std.proofs.lemmas.List.{drop-take, same_lists, get_or-map, get_or-set_other, get_or-set_same, get_or_append_left, get_or_default, take-take}
+use Rattle.std.proofs.lemmas.Bool.{cases_eq}
 use Rattle.std.specs.List.{copy_within}
 use Rattle.registers.specs.Meaning.{most_formats}
 use Rattle.bay.proofs.Searches.{still_ticked}
@@ -44,6 +45,26 @@ length_opened n legs fits =
 abbrev pub Started : List Leg → ℕ → ℕ → List Bool → Type 0
 Started legs goal n starts = (length starts ≡ most_formats) ×
     ((k : ℕ) → k < n → (get_or legs k no_leg).to ≡ goal → get_or starts (get_or legs k no_leg).from false ≡ true)
+
+-- a format with a mark is one where such a leg begins
+abbrev pub OnlyStarted : List Leg → ℕ → ℕ → List Bool → Type 0
+OnlyStarted legs goal n starts =
+    (v : ℕ) → get_or starts v false ≡ true → (k : ℕ) × (k < n) × ((get_or legs k no_leg).to ≡ goal) × ((get_or legs k no_leg).from ≡ v)
+
+pub only_passes : (legs : List Leg) (goal n : ℕ) (starts : List Bool) → OnlyStarted legs goal n starts → (starts' : List Bool) → starts' ≡ starts → OnlyStarted legs goal (n + 1) starts'
+only_passes legs goal n starts only starts' e v h =
+    let (k, low, to, from) = only v (ap (λ s. get_or s v false) (sym e) ∙ h) in
+    (k, omega arith, to, from)
+
+pub only_more : (legs : List Leg) (goal n : ℕ) (starts : List Bool) → OnlyStarted legs goal n starts → (leg : Leg) → leg ≡ get_or legs n no_leg → leg.to ≡ goal →
+    (starts' : List Bool) → starts' ≡ set starts leg.from true → OnlyStarted legs goal (n + 1) starts'
+only_more legs goal n starts only leg is to starts' e v h = go (cases_eq v leg.from)
+  where
+    go : (v ≡ leg.from) ⊎ (v ≡ leg.from → ⊥) → (k : ℕ) × (k < n + 1) × ((get_or legs k no_leg).to ≡ goal) × ((get_or legs k no_leg).from ≡ v)
+    go (inl same) = (n, omega arith, ap (λ l. l.to) (sym is) ∙ to, ap (λ l. l.from) (sym is) ∙ sym same)
+    go (inr other) =
+        let (k, low, ends, from) = only v (sym (get_or-set_other starts leg.from v true false other) ∙ ap (λ s. get_or s v false) (sym e) ∙ h) in
+        (k, omega arith, ends, from)
 
 pub started_more : (legs : List Leg) (goal n : ℕ) (starts : List Bool) → Started legs goal n starts → (leg : Leg) → leg ≡ get_or legs n no_leg → leg.from < most_formats →
     (starts' : List Bool) → starts' ≡ set starts leg.from true → Started legs goal (n + 1) starts'

@@ -68,7 +68,9 @@ impl<C: Cost> RouteWriter<'_, C> {
 
     // Whether some leg ends in the goal.
     fn leads_to(&self, goal: usize) -> bool
-        ensures { result ≡ false →
+        ensures yes { result ≡ true →
+            (k : ℕ) × (k < number_of self.now) × ((leg_of self.now k).to ≡ goal) }
+        ensures no { result ≡ false →
             (k : ℕ) → k < number_of self.now → (leg_of self.now k).to ≢ goal }
     {
         self.legs.as_slice().iter().any(|leg| leg.to == goal)
@@ -77,8 +79,11 @@ impl<C: Cost> RouteWriter<'_, C> {
     // The formats where a leg to the goal begins.
     fn starts_to(&self, goal: usize) -> [bool; MOST_FORMATS]
         requires { LegsBelow most_formats self.now }
-        ensures { (k : ℕ) → k < number_of self.now → EndsIn (slots_of self.now) k goal →
+        ensures each { (k : ℕ) → k < number_of self.now → EndsIn (slots_of self.now) k goal →
             slice_index_or result (leg_of self.now k).from false ≡ true }
+        ensures only { (v : ℕ) → slice_index_or result v false ≡ true →
+            (k : ℕ) × (k < number_of self.now) × EndsIn (slots_of self.now) k goal
+            × ((leg_of self.now k).from ≡ v) }
     {
         let mut starts = [false; MOST_FORMATS];
         for leg in self.legs.as_slice() {

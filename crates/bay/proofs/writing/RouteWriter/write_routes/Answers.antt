@@ -62,7 +62,7 @@ write_goal-requires g c =
       legs = legs;
       least = least_with_goal K g.met.C.Cost.lawful c.args.n _ _ (kept_calm K c.args.n _ _ kept c.requires.calm)
           (kept_least K c.args.n _ _ c.solve_to.ensures.kept c.loop-goal.goal c.solve_to.ensures.least);
-      traced = λ k l e. c.trace.ensures.traced _ (leg_below c.args.n _ legs k l).0 (c.starts_to-wanted.ensures k l e);
+      traced = λ k l e. c.trace.ensures.traced _ (leg_below c.args.n _ legs k l).0 (c.starts_to-wanted.ensures.each k l e);
       awaits = λ k l e. progress.later k l (omega arith);
     }
 
@@ -90,7 +90,7 @@ loop-goal-preserved g c =
           )
       | else-leads_to w ↦
           subst (λ p. Progress K card (slots_of first) (slots_of p) (c.loop-goal.goal + 1) × SameMemory first p × Clear c.if-leads_to.sheet × Kept n entry c.if-leads_to.table × FirstDone K n card c.if-leads_to.table) (sym w.self-is) (
-            progress_passes K card (slots_of first) now c.loop-goal.goal progress (c.leads_to.ensures w.if-leads_to.false),
+            progress_passes K card (slots_of first) now c.loop-goal.goal progress (c.leads_to.ensures.no w.if-leads_to.false),
             lent,
             subst Clear (sym w.sheet-is) clear,
             subst (Kept n entry) (sym w.table-is) kept,
