@@ -10,17 +10,17 @@ use Rattle.std.specs.List.{All, flat_map}
 use Rattle.std.proofs.lemmas.Grind.{flat_map-append}
 use Rattle.std.proofs.lemmas.List.{drop-append-le, drop-drop, drop_at, length-drop, length-take-le, take-append-drop, take_all, take_at, take_more, map-append}
 use Rattle.std.proofs.lemmas.Bool.{ltb-false}
-use Rattle.std.proofs.lemmas.List.Elements.{All-cons, All-nil}
+use Rattle.std.proofs.lemmas.List.Elements.{All-cons, All-nil, All-push}
 use Rattle.costs.specs.declared.Cost.{Ghosts as Kind}
 use Rattle.registers.specs.Fault.{after, code, first_cause}
 use Rattle.registers.specs.declared.fault.Layer.TheVariants.{Bay}
 use Rattle.registers.specs.declared.fault.Code.{Code}
-use Rattle.bay.specs.Buffers.{buffers, in_front}
+use Rattle.bay.specs.Buffers.{Buffers, buffers, in_front}
 use Rattle.bay.specs.Calls.{Called, Made, legs_step}
 use Rattle.bay.specs.Legs.{struck}
 use Rattle.bay.specs.Limits.{most_legs}
 use Rattle.bay.specs.Plain.{Plain, granted, step}
-use Rattle.bay.specs.Runs.{InPart, Leaves, OneAfterOther, PassesOn, Ran, answer_of, call_of, chains_found, chains_left, costs_found, costs_left, legs_after, own, part_bytes, parts, plain_after, put_at, run_causes, takes_part}
+use Rattle.bay.specs.Runs.{InPart, Leaves, OneAfterOther, PassesOn, Ran, WholePart, InWholePart, answer_of, call_of, chains_found, chains_left, costs_found, costs_left, legs_after, own, part_bytes, parts, plain_after, put_at, run_causes, takes_part}
 use Rattle.bay.specs.declared.calls.Call.{Call}
 use Rattle.bay.specs.declared.calls.Call.TheVariants.{Enter, Withdraw, Book, Strike, Show, Route}
 use Rattle.bay.specs.declared.cells.Cell.{Cell}
@@ -50,6 +50,14 @@ own_none (Withdraw a b) xs e = refl
 own_none (Book a b) xs e = refl
 own_none (Strike k) xs e = refl
 own_none (Show k) xs e = refl
+
+whole_by : {C : Type 0} (call : Call C) (m : Buffers C) → (takes_part call ≡ true → (length (own call m.costs) ≡ most_legs) × (length (own call m.chains) ≡ part_bytes)) → WholePart call m
+whole_by Route m h = h refl
+whole_by (Enter a b x) m h = tt
+whole_by (Withdraw a b) m h = tt
+whole_by (Book a b) m h = tt
+whole_by (Strike k) m h = tt
+whole_by (Show k) m h = tt
 
 pub own_long : {C X : Type 0} (call : Call C) (xs ys : List X) → length xs ≡ length ys → length (own call xs) ≡ length (own call ys)
 own_long Route xs ys e = e
@@ -162,6 +170,7 @@ module _ {C : Type 0} {K : Kind C} (p : Plain K) (legs : List Leg) (table : List
     pub calls_are : map call_of made ≡ take i calls
     pub parts_are : part ≡ parts (take i calls)
     pub chain : Chain p legs made q l
+    pub whole : All InWholePart made
     pub answers_are : answers' ≡ in_front (map answer_of made) answers
     pub passes : PassesOn table made table'
     pub costs_were : costs ≡ in_front (costs_found made) costs
@@ -177,6 +186,7 @@ module _ {C : Type 0} {K : Kind C} (p : Plain K) (legs : List Leg) (table : List
     calls_are = refl;
     parts_are = refl;
     chain = (refl, refl);
+    whole = All-nil InWholePart;
     answers_are = refl;
     passes = refl;
     costs_were = refl;
@@ -198,6 +208,7 @@ module _ {C : Type 0} {K : Kind C} (p : Plain K) (legs : List Leg) (table : List
         plain_is = chain_plain p q legs l r.made r.chain ∙ ap (plain_after p) calls_are;
         legs_are = chain_legs p q legs l r.made r.chain;
         answers_are = r.answers_are;
+        whole = r.whole;
         leaves = chain_leaves p q legs l r.made p.register.size refl r.chain;
         table = r.passes;
         costs_were = r.costs_were;
@@ -236,6 +247,14 @@ module _ {C : Type 0} {K : Kind C} (p : Plain K) (legs : List Leg) (table : List
     own_same : {X : Type 0} (xs : List X) → own d.made.call xs ≡ own call xs
     own_same xs = ap (λ c. own c xs) d.call_is
 
+    -- a call that works in a part found a whole one
+    whole_made : InWholePart d.made
+    whole_made = whole_by d.made.call d.made.before (λ t.
+        let taken : takes_part call ≡ true = sym (ap takes_part d.call_is) ∙ t in (
+          ap length (own_same d.made.before.costs ∙ d.costs_were ∙ own_all call _ taken) ∙ length-take-le most_legs (drop (most_legs * part) costs') (omega (arith, length-drop (most_legs * part) costs', (fits taken).0)),
+          ap length (own_same d.made.before.chains ∙ d.chains_were ∙ own_all call _ taken) ∙ length-take-le part_bytes (drop (part_bytes * part) chains') (omega (arith, length-drop (part_bytes * part) chains', (fits taken).1)),
+        ))
+
     pub ran_more : RanTo (i + 1) (part + byte) q' l' table'' costs'' chains'' (set answers' i answer)
     ran_more =
         let m = d.made in
@@ -254,6 +273,7 @@ module _ {C : Type 0} {K : Kind C} (p : Plain K) (legs : List Leg) (table : List
           calls_are = map-append call_of r.made (m ∷ []) ∙ (λ j. r.calls_are j ++ d.call_is j ∷ []) ∙ sym more_calls;
           parts_are = (λ j. r.parts_are j + byte_is j) ∙ sym (ap parts more_calls ∙ sum_by_push count (take i calls) call);
           chain = chain_more p q q' legs l l' r.made m r.chain d.called;
+          whole = All-push InWholePart r.made m r.whole whole_made;
           answers_are = answers_more (map answer_of r.made) answers answers' i answer long_made (omega arith) r.answers_are ∙
               ap (λ xs. in_front xs answers) (sym (map-append answer_of r.made (m ∷ []) ∙ (λ j. map answer_of r.made ++ d.answer_is j ∷ [])));
           passes = passes_more table table' table'' r.made m r.passes d.table_was d.table_is;

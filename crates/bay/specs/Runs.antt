@@ -8,7 +8,7 @@ use Rattle.registers.specs.declared.fault.Code.{Code}
 use Rattle.registers.specs.declared.fault.Layer.TheVariants.{Bay}
 use Rattle.walks.specs.Walk.{Gains}
 use Rattle.bay.specs.Buffers.{Buffers, Wrote, buffers, in_front}
-use Rattle.bay.specs.Calls.{Made, Judged, Called, made, legs_step}
+use Rattle.bay.specs.Calls.{Made, Judged, Called, keeps_register, made, legs_step}
 use Rattle.bay.specs.Faults.{bay_code}
 use Rattle.bay.specs.Limits.{most_legs}
 use Rattle.bay.specs.Plain.{Plain, step}
@@ -102,6 +102,18 @@ module _ {C : Type 0} where
       (nat_lt entries (most_legs * parts calls), code Bay 15 1) ∷ (nat_lt bytes (part_bytes * parts calls), code Bay 15 2) ∷
       (nat_lt answers (length calls), code Bay 15 3) ∷ []
 
+  -- a call that works in a part of the sheets is lent a whole one
+  abbrev pub WholePart : Call C → Buffers C → Type 0
+  WholePart Route m = (length m.costs ≡ most_legs) × (length m.chains ≡ part_bytes)
+  WholePart call m = Unit {0}
+
+  abbrev pub InWholePart : Made C → Type 0
+  InWholePart m = WholePart m.call m.before
+
+  -- none of the calls changes anything in the register
+  abbrev pub AllKeepRegister : List (Call C) → Type 0
+  AllKeepRegister calls = All (λ call. keeps_register call ≡ true) calls
+
   -- the part of a sheet that a call works in, if it does
   abbrev pub own : {X : Type 0} → Call C → List X → List X
   own Route sheet = sheet
@@ -142,6 +154,7 @@ pub record Ran {C : Type 0} {K : Kind C} (p p' : Plain K) (legs legs' : List Leg
   pub plain_is : p' ≡ plain_after p calls
   pub legs_are : legs' ≡ legs_after legs made
   pub answers_are : answers' ≡ in_front (map answer_of made) answers
+  pub whole : All InWholePart made
   pub leaves : All (Leaves p.register.size) made
   pub table : PassesOn before.table made after.table
   pub costs_were : before.costs ≡ in_front (costs_found made) before.costs

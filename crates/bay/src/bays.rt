@@ -34,7 +34,7 @@ impl<R: Register> Bay<R> {
     ghost use Rattle.bay.specs.Calls.{Called, keeps_register, made};
     ghost use Rattle.bay.specs.Plain.{step, verdict};
     ghost use Rattle.bay.specs.Routing.{RouteAnswer, route_causes};
-    ghost use Rattle.bay.specs.Runs.{InPart, Ran, part_bytes, run_causes, takes_part};
+    ghost use Rattle.bay.specs.Runs.{AllKeepRegister, InPart, Ran, part_bytes, run_causes, takes_part};
     ghost use Rattle.bay.specs.declared.calls.Call.TheVariants.{Enter, Withdraw, Book, Strike, Show};
 
     // A bay with no legs.
@@ -229,10 +229,11 @@ impl<R: Register> Bay<R> {
             most_legs * part + most_legs ≤ length costs.old }
         requires chains { takes_part call ≡ true →
             part_bytes * part + part_bytes ≤ length chains.old }
-        ensures { let before = buffers table.old costs.old chains.old in
+        ensures made { let before = buffers table.old costs.old chains.old in
             let after = buffers table.new costs.new chains.new in
             InPart (plain self.old) (plain self.new) (legs self.old) (legs self.new)
             part call result before after }
+        ensures register { keeps_register call ≡ true → self.new.register ≡ self.old.register }
     {
         if !call.takes_part() {
             return self.call(call, table, &mut costs[..0], &mut chains[..0]);
@@ -260,6 +261,7 @@ impl<R: Register> Bay<R> {
             let after = buffers table.new costs.new chains.new in
             OnOk result (Ran (plain self.old) (plain self.new) (legs self.old) (legs self.new)
             calls.now answers.old answers.new before after) }
+        ensures register { AllKeepRegister calls.now → self.new.register ≡ self.old.register }
         ensures refused { let before = buffers table.old costs.old chains.old in
             let after = buffers table.new costs.new chains.new in
             OnErr result ((self.new ≡ self.old) × (answers.new ≡ answers.old) × (after ≡ before)) }

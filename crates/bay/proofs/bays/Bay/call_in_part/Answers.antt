@@ -5,8 +5,8 @@ use Rattle.bay.specs.Runs.{own, part_bytes, takes_part}
 use Rattle.bay.proofs.RunSteps.{none_put, own_long, own_none, part_put}
 use Rattle.bay.proofs.bays.Bay.call_in_part.Goals as goal
 
-pub returns-then-not-takes_part : goal.returns-then-not-takes_part
-returns-then-not-takes_part g c =
+pub returns-then-not-takes_part-clause-made : goal.returns-then-not-takes_part-clause-made
+returns-then-not-takes_part-clause-made g c =
     let call = c.args.call in
     let none : takes_part call ≡ false = sym c.takes_part.ensures ∙ c.if-not-takes_part.true in
     record {
@@ -24,8 +24,8 @@ returns-then-not-takes_part g c =
       chains_long = own_long call _ _ c.call.auto.chains;
     }
 
-pub returns : goal.returns
-returns g c =
+pub returns-clause-made : goal.returns-clause-made
+returns-clause-made g c =
     let call = c.args.call in
     let all : takes_part call ≡ true = sym c.takes_part.ensures ∙ c.if-not-takes_part.false in
     let costs : most_legs * c.args.part + most_legs - most_legs * c.args.part ≡ most_legs = omega arith in
