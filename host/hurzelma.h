@@ -12,6 +12,9 @@
 #include <stddef.h>
 #include <stdint.h>
 
+/* The first of the three numbers goes up with each change that a host has to follow. */
+#define HURZELMA_VERSION "1.0.0"
+
 #ifdef __cplusplus
 extern "C" {
 #endif
