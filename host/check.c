@@ -13,17 +13,24 @@
 
 enum { CALLS = 50000, MOST = 66, LEGS = 34, CARDS = MOST * MOST, BYTES = LEGS * HURZELMA_ROW };
 
-/* What a call is handed, as numbers of either kind, half lines or bits. */
+/* The kinds, and a cost of any of them: of delays all depths are 255, and of depths all delays 0. */
+enum kind { DELAY, DEPTH, BOTH };
+
+struct cost {
+    int64_t delay, depth;
+};
+
+/* What a call is handed. */
 struct job {
-    bool depth;
+    enum kind kind;
     size_t n, cards_length, legs_length, costs_length, chains_length;
-    int32_t cards[CARDS];
+    struct cost cards[CARDS];
     struct hurzelma_leg legs[LEGS];
 };
 
 /* What it left. */
 struct left {
-    int32_t costs[LEGS];
+    struct hurzelma_both costs[LEGS];
     uint8_t chains[BYTES];
 };
 
@@ -44,21 +51,24 @@ static bool chance(int of) {
 /* The rules. */
 
 static bool stands(const struct job *job, size_t s, size_t t) {
-    int64_t cost = job->cards[s * job->n + t];
-    return s != t && (job->depth ? 1 <= cost && cost <= 16 : -2000000 <= cost && cost <= 2000000);
+    struct cost cost = job->cards[s * job->n + t];
+    bool slow = cost.delay < -2000000 || cost.delay > 2000000, deep = cost.depth < 1 || cost.depth > 16;
+    return s != t && !(job->kind != DEPTH && slow) && !(job->kind != DELAY && deep);
 }
 
-static int64_t sum(const struct job *job, int64_t a, int64_t b) {
-    return job->depth ? (a < b ? a : b) : a + b;
+static struct cost sum(struct cost a, struct cost b) {
+    return (struct cost){a.delay + b.delay, a.depth < b.depth ? a.depth : b.depth};
 }
 
-static bool better(const struct job *job, int64_t a, int64_t b) {
-    return job->depth ? a > b : a < b;
+static bool better(struct cost a, struct cost b) {
+    return a.delay < b.delay || (a.delay == b.delay && a.depth > b.depth);
 }
 
-static int64_t unit(const struct job *job) {
-    return job->depth ? 255 : 0;
+static bool equal(struct cost a, struct cost b) {
+    return a.delay == b.delay && a.depth == b.depth;
 }
+
+static const struct cost unit = {0, 255};
 
 static uint32_t fault(uint32_t layer, uint32_t number, uint32_t part) {
     return layer << 16 | number << 8 | part;
@@ -82,17 +92,17 @@ static uint32_t early(const struct job *job) {
 }
 
 /* The best costs from every format to one, and whether a walk leads there; false where they do not settle. */
-static bool relax(const struct job *job, size_t goal, int64_t *best, bool *leads) {
+static bool relax(const struct job *job, size_t goal, struct cost *best, bool *leads) {
     memset(leads, 0, job->n * sizeof *leads);
-    best[goal] = unit(job);
+    best[goal] = unit;
     leads[goal] = true;
     for (size_t round = 0; round <= job->n; round++) {
         bool changed = false;
         for (size_t s = 0; s < job->n; s++) {
             for (size_t t = 0; t < job->n; t++) {
                 if (!leads[t] || !stands(job, s, t)) continue;
-                int64_t cost = sum(job, job->cards[s * job->n + t], best[t]);
-                if (leads[s] && !better(job, cost, best[s])) continue;
+                struct cost cost = sum(job->cards[s * job->n + t], best[t]);
+                if (leads[s] && !better(cost, best[s])) continue;
                 best[s] = cost;
                 leads[s] = true;
                 changed = true;
@@ -104,7 +114,7 @@ static bool relax(const struct job *job, size_t goal, int64_t *best, bool *leads
 }
 
 static bool gains(const struct job *job) {
-    int64_t best[MOST];
+    struct cost best[MOST];
     bool leads[MOST];
     for (size_t goal = 0; goal < job->n; goal++) {
         if (!relax(job, goal, best, leads)) return true;
@@ -113,15 +123,15 @@ static bool gains(const struct job *job) {
 }
 
 /* Whether a row holds so many formats of a walk over standing cards, and 255 behind them; then the walk's cost. */
-static bool is_walk(const struct job *job, const uint8_t *row, int64_t *cost) {
+static bool is_walk(const struct job *job, const uint8_t *row, struct cost *cost) {
     size_t count = row[0];
     if (count < 1 || count > 65) return false;
-    *cost = unit(job);
+    *cost = unit;
     for (size_t i = 1; i < HURZELMA_ROW; i++) {
         if (i > count ? row[i] != 255 : row[i] >= job->n) return false;
         if (i < 2 || i > count) continue;
         if (!stands(job, row[i - 1], row[i])) return false;
-        *cost = sum(job, *cost, job->cards[row[i - 1] * job->n + row[i]]);
+        *cost = sum(*cost, job->cards[row[i - 1] * job->n + row[i]]);
     }
     return true;
 }
@@ -137,23 +147,23 @@ static bool all_differ(const uint8_t *formats, size_t count) {
 }
 
 static bool is_loop(const struct job *job, const uint8_t *row) {
-    int64_t cost;
-    return is_walk(job, row, &cost) && row[0] > 1 && row[1] == row[row[0]] && all_differ(row + 1, row[0] - 1u) && better(job, cost, unit(job));
+    struct cost cost;
+    return is_walk(job, row, &cost) && row[0] > 1 && row[1] == row[row[0]] && all_differ(row + 1, row[0] - 1u) && better(cost, unit);
 }
 
 /* Whether a leg's row and cost are right. */
-static bool is_served(const struct job *job, struct hurzelma_leg leg, const uint8_t *row, int64_t told) {
-    int64_t best[MOST], cost;
+static bool is_served(const struct job *job, struct hurzelma_leg leg, const uint8_t *row, struct cost told) {
+    struct cost best[MOST], cost;
     bool leads[MOST];
     if (!relax(job, leg.to, best, leads)) return false;
     if (!leads[leg.from]) {
         for (size_t i = 1; i < HURZELMA_ROW; i++) {
             if (row[i] != 255) return false;
         }
-        return row[0] == 0 && told == unit(job);
+        return row[0] == 0 && equal(told, unit);
     }
-    return is_walk(job, row, &cost) && all_differ(row + 1, row[0]) && row[1] == leg.from && row[row[0]] == leg.to && cost == told &&
-           told == best[leg.from];
+    return is_walk(job, row, &cost) && all_differ(row + 1, row[0]) && row[1] == leg.from && row[row[0]] == leg.to && equal(cost, told) &&
+           equal(told, best[leg.from]);
 }
 
 /* Whether two chains to one format go on alike from where they meet. */
@@ -169,6 +179,11 @@ static bool agree(const uint8_t *one, const uint8_t *other) {
     return true;
 }
 
+/* The cost that an entry of the sheet tells. */
+static struct cost told_cost(const struct job *job, struct hurzelma_both entry) {
+    return (struct cost){job->kind == DEPTH ? 0 : entry.delay, job->kind == DELAY ? 255 : entry.depth};
+}
+
 /* Whether all is right that a call told and left. */
 static bool is_right(const struct job *job, uint32_t told, const struct left *before, const struct left *after) {
     uint32_t cause = early(job);
@@ -180,7 +195,7 @@ static bool is_right(const struct job *job, uint32_t told, const struct left *be
                memcmp(before->chains + HURZELMA_ROW, after->chains + HURZELMA_ROW, BYTES - HURZELMA_ROW) == 0;
     }
     for (size_t k = 0; k < legs; k++) {
-        if (!is_served(job, job->legs[k], after->chains + HURZELMA_ROW * k, after->costs[k])) return false;
+        if (!is_served(job, job->legs[k], after->chains + HURZELMA_ROW * k, told_cost(job, after->costs[k]))) return false;
         for (size_t j = 0; j < k; j++) {
             if (!agree(after->chains + HURZELMA_ROW * j, after->chains + HURZELMA_ROW * k)) return false;
         }
@@ -191,20 +206,30 @@ static bool is_right(const struct job *job, uint32_t told, const struct left *be
 
 /* The calls. */
 
-static int32_t draw_cost(const struct job *job, int64_t low) {
-    if (chance(60)) return job->depth ? (int32_t)draw(0, 1) * 17 : (int32_t)draw(0, 1) * 4000002 - 2000001;
-    if (chance(200)) return job->depth ? 16 : (int32_t)draw(0, 1) * 4000000 - 2000000;
-    return job->depth ? (int32_t)draw(1, 16) : (int32_t)draw(low, 9);
+static int64_t draw_delay(int64_t low) {
+    if (chance(60)) return draw(0, 1) * 4000002 - 2000001;
+    if (chance(200)) return draw(0, 1) * 4000000 - 2000000;
+    return draw(low, 9);
+}
+
+static int64_t draw_depth(void) {
+    if (chance(60)) return draw(0, 1) * 17;
+    return chance(200) ? 16 : draw(1, 16);
+}
+
+static struct cost draw_cost(enum kind kind, bool none, int64_t low) {
+    int64_t delay = none ? HURZELMA_NO_DELAY : draw_delay(low), depth = none ? HURZELMA_NO_DEPTH : draw_depth();
+    return (struct cost){kind == DEPTH ? 0 : delay, kind == DELAY ? 255 : depth};
 }
 
 static void draw_job(struct job *job) {
     static const size_t odd_sizes[] = {0, 1, 65, 66, 64};
-    job->depth = chance(2);
+    job->kind = (enum kind)draw(DELAY, BOTH);
     job->n = chance(40) ? odd_sizes[draw(0, 4)] : (size_t)(chance(200) ? draw(20, 40) : draw(2, 7));
     job->cards_length = job->n * job->n - (size_t)(job->n > 0 && chance(40));
     int64_t low = draw(-3, 1), of = draw(1, 5);
     for (size_t i = 0; i < job->n * job->n; i++) {
-        job->cards[i] = chance((int)of) ? draw_cost(job, low) : job->depth ? HURZELMA_NO_DEPTH : HURZELMA_NO_DELAY;
+        job->cards[i] = draw_cost(job->kind, !chance((int)of), low);
     }
     job->legs_length = (size_t)(chance(30) ? draw(31, 34) : draw(0, 5));
     for (size_t k = 0; k < job->legs_length; k++) {
@@ -219,18 +244,37 @@ static void draw_job(struct job *job) {
     if (job->legs_length > 0 && chance(30)) job->chains_length = HURZELMA_ROW * job->legs_length - 1;
 }
 
-static uint32_t call(const struct job *job, struct left *left) {
-    if (!job->depth) {
-        return hurzelma_route_delay(job->n, job->cards, job->cards_length, job->legs, job->legs_length,
-                                    left->costs, job->costs_length, left->chains, job->chains_length);
-    }
-    uint8_t cards[CARDS], costs[LEGS];
-    for (size_t i = 0; i < job->n * job->n; i++) cards[i] = (uint8_t)job->cards[i];
-    for (size_t k = 0; k < LEGS; k++) costs[k] = (uint8_t)left->costs[k];
+static uint32_t call_delay(const struct job *job, struct left *left) {
+    hurzelma_half_lines cards[CARDS], costs[LEGS];
+    for (size_t i = 0; i < job->n * job->n; i++) cards[i] = (hurzelma_half_lines)job->cards[i].delay;
+    for (size_t k = 0; k < LEGS; k++) costs[k] = left->costs[k].delay;
+    uint32_t told = hurzelma_route_delay(job->n, cards, job->cards_length, job->legs, job->legs_length,
+                                         costs, job->costs_length, left->chains, job->chains_length);
+    for (size_t k = 0; k < LEGS; k++) left->costs[k].delay = costs[k];
+    return told;
+}
+
+static uint32_t call_depth(const struct job *job, struct left *left) {
+    hurzelma_bits cards[CARDS], costs[LEGS];
+    for (size_t i = 0; i < job->n * job->n; i++) cards[i] = (hurzelma_bits)job->cards[i].depth;
+    for (size_t k = 0; k < LEGS; k++) costs[k] = left->costs[k].depth;
     uint32_t told = hurzelma_route_depth(job->n, cards, job->cards_length, job->legs, job->legs_length,
                                          costs, job->costs_length, left->chains, job->chains_length);
-    for (size_t k = 0; k < LEGS; k++) left->costs[k] = costs[k];
+    for (size_t k = 0; k < LEGS; k++) left->costs[k].depth = costs[k];
     return told;
+}
+
+static uint32_t call_both(const struct job *job, struct left *left) {
+    struct hurzelma_both cards[CARDS];
+    for (size_t i = 0; i < job->n * job->n; i++) {
+        cards[i] = (struct hurzelma_both){(hurzelma_half_lines)job->cards[i].delay, (hurzelma_bits)job->cards[i].depth};
+    }
+    return hurzelma_route_both(job->n, cards, job->cards_length, job->legs, job->legs_length,
+                               left->costs, job->costs_length, left->chains, job->chains_length);
+}
+
+static uint32_t call(const struct job *job, struct left *left) {
+    return job->kind == DELAY ? call_delay(job, left) : job->kind == DEPTH ? call_depth(job, left) : call_both(job, left);
 }
 
 static const char ticket[] =
@@ -264,9 +308,8 @@ int main(void) {
     for (unsigned i = 0; i < CALLS; i++) {
         struct left before, after;
         draw_job(&job);
-        for (size_t k = 0; k < LEGS; k++) before.costs[k] = (int32_t)draw(0, 255);
-        for (size_t k = 0; k < BYTES; k++) before.chains[k] = (uint8_t)draw(0, 255);
-        after = before;
+        for (size_t k = 0; k < sizeof before; k++) ((uint8_t *)&before)[k] = (uint8_t)draw(0, 255);
+        memcpy(&after, &before, sizeof after);
         uint32_t told = call(&job, &after);
         if (!is_right(&job, told, &before, &after)) {
             printf("call %u of %zu formats is wrong: it was told %u\n", i, job.n, told);

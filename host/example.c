@@ -1,4 +1,4 @@
-/* A host in C: it asks for three routes by numbers and for the answers to two tickets, and prints what it is told. */
+/* A host in C: it asks for four routes by numbers and for the answers to three tickets, and prints what it is told. */
 #include "hurzelma.h"
 
 #include <stdio.h>
@@ -42,6 +42,26 @@ static void route(const hurzelma_half_lines cards[FORMATS * FORMATS], const stru
     }
 }
 
+/* Routes one leg over costs of a delay and a depth. */
+static void route_both(void) {
+    const struct hurzelma_both no = HURZELMA_NO_BOTH;
+    const struct hurzelma_both cards[FORMATS * FORMATS] = {
+        no, {3, 10}, {6, 8},
+        no, no, {3, 10},
+        no, no, no,
+    };
+    const struct hurzelma_leg leg = {0, 2};
+    struct hurzelma_both cost = {0, 0};
+    uint8_t chain[HURZELMA_ROW] = {0};
+    uint32_t told = hurzelma_route_both(FORMATS, cards, FORMATS * FORMATS, &leg, 1, &cost, 1, chain, sizeof chain);
+    if (told != HURZELMA_GRANTED) {
+        print_told(told);
+        return;
+    }
+    printf("%d half lines and %u bits by", (int)cost.delay, cost.depth);
+    print_row(chain);
+}
+
 /* Answers a ticket, first in a place that may be too short. */
 static void answer(const char *ticket, size_t room) {
     uint8_t place[HURZELMA_ANSWER];
@@ -72,8 +92,10 @@ int main(void) {
     route(cards, legs);
     route(gaining, legs);
     route(cards, wrong);
+    route_both();
     answer("(bay delay 3)\n(format 0 UYVY)\n(format 1 v210)\n(format 2 NV12)\n"
            "(card (0 1) 4)\n(card (0 2) 6)\n(card (2 1) -3)\n(leg (0 1))\n(leg (1 0))\n(end)\n", 16);
+    answer("(bay both 2)\n(format 0 UYVY)\n(format 1 v210)\n(card (0 1) (-4.5 10))\n(leg (0 1))\n(leg (1 1))\n(end)\n", HURZELMA_ANSWER);
     answer("(bay delay 1)\n", HURZELMA_ANSWER);
     return 0;
 }

@@ -33,9 +33,16 @@ typedef int32_t hurzelma_half_lines;
 /* A depth: so many bits kept of a sample. */
 typedef uint8_t hurzelma_bits;
 
-/* Numbers that are no card: one of half lines, and one of bits. */
+/* A delay and a depth: the smaller delay is better, and where delays are equal the larger depth. */
+struct hurzelma_both {
+    hurzelma_half_lines delay;
+    hurzelma_bits depth;
+};
+
+/* Numbers that are no card: one of half lines, one of bits, and one of each, with which a struct hurzelma_both begins. */
 #define HURZELMA_NO_DELAY INT32_MIN
 #define HURZELMA_NO_DEPTH 0
+#define HURZELMA_NO_BOTH {HURZELMA_NO_DELAY, HURZELMA_NO_DEPTH}
 
 #define HURZELMA_STACK (256 * 1024)
 
@@ -59,7 +66,7 @@ struct hurzelma_leg {
  *   bay 15: the cost sheet (1) has fewer entries than there are legs, or the chain sheet (2) fewer bytes than their rows
  *   bay 24: more than 32 legs
  *   bay 25: no legs
- *   bay 26: a loop of cards undercuts the unit, which is 0 half lines or 255 bits; row 0 then holds such a loop. Its first format comes
+ *   bay 26: a loop of cards undercuts the unit, which is 0 half lines, 255 bits, or both; row 0 then holds such a loop. Its first format comes
  *           again at its end and counts twice, so the number is up to 65 */
 #define HURZELMA_NUMBER(told) (((told) >> 8) & 255u)
 #define HURZELMA_PART(told) ((told) & 255u)
@@ -69,11 +76,12 @@ struct hurzelma_leg {
  * cards: n * n numbers, row by row: that of the card from format s to format t stands at s * n + t. A number that no card may have
  * is no card, and so is every number from a format to itself. A card's delay is -2000000 to 2000000 half lines, a million lines
  * each way, with the smaller one better and delays added along a chain; its depth is 1 to 16 bits, with the larger one better and
- * a chain keeping the smallest of its cards.
+ * a chain keeping the smallest of its cards. A card with both may have what both of its parts may have, and a chain the sum of the
+ * delays and the smallest of the depths.
  *
- * Granted, entry k of costs is the cost of leg k's chain, in half lines or in bits, and row k of chains holds the chain. A chain of
- * one format, for a leg whose formats are the same, costs 0 half lines, or 255 bits. Where no chain leads from its first format to
- * its last, the row has the number 0, and the cost is 0 half lines or 255 bits. Entries and rows beyond the legs are as they were.
+ * Granted, entry k of costs is the cost of leg k's chain, in half lines, in bits or in both, and row k of chains holds the chain. A
+ * chain of one format, for a leg whose formats are the same, costs the unit. Where no chain leads from its first format to its last,
+ * the row has the number 0, and the cost is the unit. Entries and rows beyond the legs are as they were.
  * Refused, all is as it was, but for row 0 after 26. The causes are judged in this order: 16, for each leg 11 and 24, then 25, 15,
  * 26. */
 uint32_t hurzelma_route_delay(size_t n, const hurzelma_half_lines *cards, size_t cards_length,
@@ -85,6 +93,11 @@ uint32_t hurzelma_route_depth(size_t n, const hurzelma_bits *cards, size_t cards
                               const struct hurzelma_leg *legs, size_t legs_length,
                               hurzelma_bits *costs, size_t costs_length,
                               uint8_t *chains, size_t chains_length);
+
+uint32_t hurzelma_route_both(size_t n, const struct hurzelma_both *cards, size_t cards_length,
+                             const struct hurzelma_leg *legs, size_t legs_length,
+                             struct hurzelma_both *costs, size_t costs_length,
+                             uint8_t *chains, size_t chains_length);
 
 /* What a ticket is told: its answer is written, or the place is too short for it. */
 #define HURZELMA_WRITTEN 0u

@@ -240,6 +240,51 @@ def half_lines(table: Table) -> None:
         table.alone(ticket("delay", 64, [(a, b, cost) for a, b in zip(order, order[1:])], [(order[0], order[-1]), (order[1], order[-1])]))
 
 
+def both(table: Table) -> None:
+    """Costs of two parts: every byte of one, forms of each part, and routes in which the second part decides."""
+    table.base(ticket("both", 3, [(0, 1, (3, 8)), (0, 2, (1 + HALF, 10)), (2, 1, (1 + HALF, 9))], [(0, 1), (1, 0), (2, 2)]))
+    table.whole()
+    for word in b"both", b"(3 8)":
+        start = table.ticket.index(word)
+        for place in range(start - 1, start + len(word) + 2):
+            table.cut(place)
+            table.sweep(place)
+    lines = ["-0", "0", "0.5", "-0.5", "-12.5", "12.5", "5.", "5.6", ".5", "01", "", "12345678", "1000000", "1000000.5", "-1000000", "9999999.5"]
+    bits = ["0", "1", "16", "17", "255", "256", "-1", "-0", "8.5", "8.", "08", "", "12345678", "9999999"]
+    made = ticket("both", 2, [(0, 1, (77, 7))], [(0, 1)])
+    for form in [f"({first} 7)" for first in lines] + [f"(3 {second})" for second in bits] + [
+        "3 8", "(3 8", "3 8)", "(3  8)", "( 3 8)", "(3 8 )", "(3,8)", "(3-8)", "(3)", "(3 8 8)", "((3 8))", "()", "(8.5 3)", "(-1000000 16)",
+    ]:  # fmt: skip
+        table.alone(made.replace(b"(77 7)", form.encode()))
+    # a cost of the wrong kind, and kinds that are none
+    for kind, cost in ("delay", (3, 8)), ("depth", (3, 8)), ("both", 3):
+        table.alone(ticket(kind, 2, [(0, 1, cost)], [(0, 1)]))
+    for kind in "bot", "boths", "bott", "Both", "b", "beth", "dboth", "botth":
+        table.alone(ticket(kind, 2, [], [(0, 1)]))
+    # which cause is found first
+    for start, end, cost in (2, 2, (1000001, 17)), (0, 2, (0, 0)), (1, 1, (0, 0)), (0, 1, (1000001, 8)), (0, 1, (1000001, 0)):
+        table.alone(ticket("both", 2, [(start, end, cost)], [(0, 1)]))
+    # of equal delays the deeper one; a smaller delay before any depth
+    table.alone(ticket("both", 4, [(0, 1, (1, 8)), (1, 3, (2, 16)), (0, 2, (2, 10)), (2, 3, (1, 12))], [(0, 3)]))
+    table.alone(ticket("both", 4, [(0, 1, (1, 8)), (1, 3, (2, 16)), (0, 2, (2, 10)), (2, 3, (1, 12)), (0, 3, (2, 1))], [(0, 3)]))
+    table.alone(ticket("both", 4, [(0, 1, (1, 8)), (1, 3, (2, 10)), (0, 2, (2, 8)), (2, 3, (1, 12))], [(0, 3), (1, 3), (0, 3)]))
+    # loops without gain, by which a delay ties, and one that gains half a line however deep it is
+    for there, back in (0, 0), (2, -2), (HALF, -HALF):
+        loop = [(0, 1, (there, 8)), (1, 0, (back, 12))]
+        table.alone(ticket("both", 3, [*loop, (0, 2, (5, 10)), (1, 2, (5 + back, 10))], [(0, 2), (1, 2), (0, 0)]))
+        table.alone(ticket("both", 4, [*loop, (0, 2, (5, 6)), (1, 2, (5 + back, 10)), (2, 3, (0, 9))], [(0, 3), (1, 3), (0, 2), (2, 3)]))
+    table.alone(ticket("both", 4, [(0, 1, (0, 9)), (1, 0, (0, 9)), (1, 2, (0, 9)), (2, 0, (0, 16)), (0, 3, (5, 8)), (2, 3, (5, 12))], [(0, 3), (1, 3), (2, 3)]))
+    table.alone(ticket("both", 3, [(0, 1, (HALF, 16)), (1, 0, (-1, 16))], [(2, 2)]))
+    table.alone(ticket("both", 3, [(0, 1, (0, 16)), (1, 0, (0, 16))], [(2, 2), (0, 1), (1, 0)]))
+    # a card that is entered again, and the house table with depths that fall with the number of the format
+    table.alone(ticket("both", 2, [(0, 1, (3, 8)), (0, 1, (3, 10)), (1, 0, (-1, 8)), (1, 0, (-1, 9))], [(0, 1), (1, 0)]))
+    table.alone(ticket("both", 8, [(a, b, (cost, 16 - b)) for a, b, cost in house()], [(4, 2), (4, 6), (4, 4)]))
+    table.alone(ticket("both", 8, [(a, b, (cost * HALF, 1 + b)) for a, b, cost in house()], [(4, 2), (4, 6), (6, 4)]))
+    order = shuffled(64)
+    for cost in (1000000, 16), (-1000000, 1), (HALF, 9):
+        table.alone(ticket("both", 64, [(a, b, cost) for a, b in zip(order, order[1:])], [(order[0], order[-1]), (order[1], order[-1]), (order[-1], order[0])]))
+
+
 def ends(table: Table) -> None:
     """Which cause is found first."""
     for kind, start, end, cost in [
@@ -423,7 +468,7 @@ def sizes(table: Table) -> None:
 def write_table(out: BinaryIO) -> Table:
     table = Table(out)
     for part in (
-        sample, first_lines, numbers, lines, codes, costs, half_lines, ends, equal_ends, many_legs, many_cards, long_chains, loops_and_ties, again, sizes,
+        sample, first_lines, numbers, lines, codes, costs, half_lines, both, ends, equal_ends, many_legs, many_cards, long_chains, loops_and_ties, again, sizes,
     ):  # fmt: skip
         part(table)
     table.end()

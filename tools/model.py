@@ -3,7 +3,7 @@
 
 It shares no code with the product and goes about things in another way. Lines are matched by taking derivatives of the
 set of allowed lines; least costs come from rounds of relaxation; chains are listed by search. A delay is a number of lines, with
-halves as exact fractions.
+halves as exact fractions; a cost of the kind both is a delay and a depth.
 
     judge(ticket)                 Granted, or Refused
     check_answer(ticket, output)  what is wrong with the output, or None
@@ -27,10 +27,11 @@ MOST_CARDS = 512
 MOST_LEGS = 32
 LARGEST_DELAY = 1_000_000
 LARGEST_DEPTH = 16
-UNIT = {"delay": 0, "depth": 255}
+UNIT = {"delay": 0, "depth": 255, "both": (0, 255)}
 
 Pair = tuple[int, int]
-Cost = int | Fraction
+Part = int | Fraction
+Cost = Part | tuple[Part, Part]
 Cards = dict[Pair, Cost]
 Chain = tuple[int, ...]
 
@@ -137,12 +138,13 @@ POSITIVE = then(one_of(DIGITS[1:]), at_most(6, one_of(DIGITS)))
 NUMBER = either(text("0"), POSITIVE)
 BITS = either(NUMBER, then(text("-"), POSITIVE))
 LINES = either(NUMBER, then(text("-"), POSITIVE), then(either(BLANK, text("-")), NUMBER, text(".5")))
-COSTS = {"delay": LINES, "depth": BITS}
+BOTH = then(text("("), LINES, text(" "), BITS, text(")"))
+COSTS = {"delay": LINES, "depth": BITS, "both": BOTH}
 SIGN = one_of(LETTERS + LETTERS.upper() + DIGITS)
 CODE = then(SIGN, SIGN, SIGN, SIGN)
 ENDS = then(text("("), NUMBER, text(" "), NUMBER, text(")"))
 
-BAY = then(text("(bay "), either(text("delay"), text("depth")), text(" "), NUMBER, text(")\n"))
+BAY = then(text("(bay "), either(*map(text, COSTS)), text(" "), NUMBER, text(")\n"))
 FORMAT = then(text("(format "), NUMBER, text(" "), CODE, text(")\n"))
 CARDS = {kind: then(text("(card "), ENDS, text(" "), cost, text(")\n")) for kind, cost in COSTS.items()}
 LEG = then(text("(leg "), ENDS, text(")\n"))
@@ -250,7 +252,7 @@ class Plan:
                 if code in self.codes:
                     raise Refusal("ticket", 4, 0, place + line.rindex(b" ") + 1)
                 self.codes.append(code)
-            case b"card", [start, end, cost]:
+            case b"card", [start, end, *cost]:
                 self.enter((int(start), int(end)), cost_of(cost), place)
             case b"leg", [start, end]:
                 self.book((int(start), int(end)), place)
@@ -284,17 +286,22 @@ class Plan:
         self.legs.append(ends)
 
 
-def cost_of(word: bytes) -> Cost:
-    """The cost that is written so."""
-    return Fraction(word.decode())
+def cost_of(words: list[bytes]) -> Cost:
+    """The cost that is written in one word, or in two."""
+    parts = tuple(Fraction(word.decode()) for word in words)
+    return parts if len(parts) == 2 else parts[0]
 
 
 def cost_text(cost: Cost) -> str:
-    """How a cost is written: as a whole number, or as one and a half."""
+    """How a cost is written: as a whole number, as one and a half, or both parts in brackets."""
+    if isinstance(cost, tuple):
+        return "(" + " ".join(map(cost_text, cost)) + ")"
     return str(int(cost)) if cost == int(cost) else str(float(cost))
 
 
 def admitted(kind: str, cost: Cost) -> bool:
+    if kind == "both":
+        return admitted("delay", cost[0]) and admitted("depth", cost[1])
     return abs(cost) <= LARGEST_DELAY if kind == "delay" else 1 <= cost <= LARGEST_DEPTH
 
 
@@ -330,7 +337,7 @@ def route(plan: Plan) -> list[Cost | None]:
     """The least cost of each leg."""
     if not plan.legs:
         raise Refusal("bay", 25, 0, plan.end_line)
-    if plan.kind == "delay" and gains(plan.n, plan.cards):
+    if plan.kind != "depth" and gains(plan.n, delays(plan.kind, plan.cards)):
         raise Refusal("bay", 26, 0, plan.end_line)
     least = {start: least_costs(plan.kind, plan.n, plan.cards, start) for start, _ in plan.legs}
     return [least[start][end] for start, end in plan.legs]
@@ -348,6 +355,11 @@ def judge(ticket: bytes) -> Granted | Refused:
 # Least costs by rounds of relaxation.
 
 
+def delays(kind: str, cards: Cards) -> Cards:
+    """The cards with their delays alone."""
+    return {pair: cost[0] for pair, cost in cards.items()} if kind == "both" else cards
+
+
 def gains(n: int, cards: Cards) -> bool:
     """Whether the delays of some loop sum below 0: relaxing from every format at once does not come to rest."""
     best = [0] * n
@@ -363,10 +375,14 @@ def gains(n: int, cards: Cards) -> bool:
 
 
 def combined(kind: str, first: Cost, second: Cost) -> Cost:
+    if kind == "both":
+        return first[0] + second[0], min(first[1], second[1])
     return first + second if kind == "delay" else min(first, second)
 
 
 def undercuts(kind: str, first: Cost, second: Cost) -> bool:
+    if kind == "both":
+        return first[0] < second[0] or first[0] == second[0] and first[1] > second[1]
     return first < second if kind == "delay" else first > second
 
 
@@ -476,7 +492,7 @@ def check_loop(plan: Plan, line: bytes) -> str | None:
     cost = walk_cost(plan.kind, plan.cards, loop)
     if cost is None:
         return f"{line!r} uses a card that does not stand"
-    return None if cost < 0 else f"{line!r} costs {cost}"
+    return None if undercuts(plan.kind, cost, UNIT[plan.kind]) else f"{line!r} costs {cost_text(cost)}"
 
 
 def check_granted(granted: Granted, output: bytes) -> str | None:
@@ -564,9 +580,10 @@ def tight(granted: Granted, end: int, cost: Cost) -> list[Pair]:
     """The cards that chains of that least cost are made of, when they lead to the end."""
     if granted.kind == "depth":
         return [pair for pair, depth in granted.cards.items() if depth >= cost]
-    back = {(there, here): delay for (here, there), delay in granted.cards.items()}
-    left = least_costs("delay", granted.n, back, end)
-    return [(a, b) for (a, b), delay in granted.cards.items() if left[b] is not None and left[a] == delay + left[b]]
+    cards = delays(granted.kind, granted.cards)
+    left = least_costs("delay", granted.n, {(there, here): delay for (here, there), delay in cards.items()}, end)
+    soon = [(a, b) for (a, b), delay in cards.items() if left[b] is not None and left[a] == delay + left[b]]
+    return [pair for pair in soon if granted.kind == "delay" or granted.cards[pair][1] >= cost[1]]
 
 
 def agree(first: Chain | None, second: Chain | None) -> bool:
@@ -588,11 +605,11 @@ def choices(options: list[list[Chain | None]], chosen: list[Chain | None], budge
 
 
 def gaining_loops(plan: Plan, budget: Budget) -> Iterator[Chain]:
-    """Every loop whose delays sum below 0, from each of its formats."""
+    """Every loop that undercuts the unit, from each of its formats."""
     follow = followers(plan.cards)
     for start in range(plan.n):
         for loop in paths(follow, (start,), start, budget):
-            if walk_cost(plan.kind, plan.cards, loop) < 0:
+            if undercuts(plan.kind, walk_cost(plan.kind, plan.cards, loop), UNIT[plan.kind]):
                 yield loop
 
 

@@ -33,6 +33,7 @@ PROGRAM = ROOT / "crates/route/out/route"
 
 SECONDS = 20
 Entry = tuple[int, int, Cost]
+KINDS = ["delay", "depth", "both"]
 HALF = Fraction(1, 2)
 
 
@@ -145,17 +146,36 @@ def depths(rng: Random, n: int, pairs: list[Pair]) -> list[int]:
 DELAYS = [level, level, level, lowered, free_delays, extreme_delays, balanced]
 
 
+def draw_delays(rng: Random, n: int, pairs: list[Pair]) -> list[Cost]:
+    costs = rng.choice(DELAYS)(rng, n, pairs)
+    if rng.random() < 0.5:
+        return [cost * HALF if 2 * cost == int(2 * cost) and abs(cost) < LARGEST_DELAY else cost for cost in costs]
+    return costs
+
+
+def draw_costs(rng: Random, kind: str, n: int, pairs: list[Pair]) -> list[Cost]:
+    match kind:
+        case "delay":
+            return draw_delays(rng, n, pairs)
+        case "depth":
+            return depths(rng, n, pairs)
+        case _:
+            return list(zip(draw_delays(rng, n, pairs), depths(rng, n, pairs)))
+
+
+def any_cost(rng: Random, kind: str) -> Cost:
+    depth = rng.randint(1, LARGEST_DEPTH)
+    return (rng.randint(1, LARGEST_DEPTH), depth) if kind == "both" else depth
+
+
 def draw_cards(rng: Random, kind: str, n: int) -> list[Entry]:
     """Standing pairs with their costs, now and then entered with another cost before."""
     pairs = list(dict.fromkeys(rng.choice(SHAPES)(rng, n)))
     rng.shuffle(pairs)
     pairs = pairs[: MOST_CARDS + (rng.random() < 0.2)]
-    costs = (rng.choice(DELAYS) if kind == "delay" else depths)(rng, n, pairs)
-    if kind == "delay" and rng.random() < 0.5:
-        costs = [cost * HALF if 2 * cost == int(2 * cost) and abs(cost) < LARGEST_DELAY else cost for cost in costs]
-    cards = [(a, b, cost) for (a, b), cost in zip(pairs, costs)]
+    cards = [(a, b, cost) for (a, b), cost in zip(pairs, draw_costs(rng, kind, n, pairs))]
     if cards and rng.random() < 0.2:
-        early = [(a, b, rng.randint(1, LARGEST_DEPTH)) for a, b, _ in rng.choices(cards, k=rng.randint(1, 5))]
+        early = [(a, b, any_cost(rng, kind)) for a, b, _ in rng.choices(cards, k=rng.randint(1, 5))]
         cards = early + cards if rng.random() < 0.5 else cards + early
     return cards
 
@@ -173,7 +193,7 @@ def draw_legs(rng: Random, n: int) -> list[Pair]:
 
 
 def whole(rng: Random) -> bytes:
-    kind = rng.choices(["delay", "depth"], [3, 1])[0]
+    kind = rng.choices(KINDS, [3, 1, 2])[0]
     n = draw_size(rng)
     return ticket_text(kind, draw_codes(rng, n), draw_cards(rng, kind, n), draw_legs(rng, n))
 
@@ -249,7 +269,7 @@ def other_number(rng: Random, ticket: bytes) -> bytes:
 
 
 def other_cost(rng: Random, ticket: bytes) -> bytes:
-    chosen = rng.choice(list(re.finditer(rb"-?[0-9.]+(?=\)\n\((?:card|leg|end))", ticket)))
+    chosen = rng.choice(list(re.finditer(rb"-?[0-9.]+(?=\)\)?\n\((?:card|leg|end)| [0-9]+\)\)\n)", ticket)))
     return ticket[: chosen.start()] + rng.choice(SIGNED).encode() + ticket[chosen.end() :]
 
 
@@ -293,7 +313,7 @@ def noise(rng: Random) -> bytes:
 
 def soup(rng: Random) -> bytes:
     """Words of the grammar in any order."""
-    words = ["(", ")", " ", "\n", "bay", "format", "card", "leg", "end", "delay", "depth", "UYVY", "(bay ", "(end)\n", "0", "1", "-1", ".5"]
+    words = ["(", ")", " ", "\n", "bay", "format", "card", "leg", "end", *KINDS, "UYVY", "(bay ", "(end)\n", "0", "1", "-1", ".5"]
     return "".join(rng.choices(words, k=rng.randrange(40))).encode()
 
 
@@ -302,32 +322,39 @@ def number(rng: Random, most: int) -> str:
     return str(rng.randrange(most)) if rng.random() < 0.96 else rng.choice(SIGNED)
 
 
-def loose_line(rng: Random, n: int, word: str, due: int) -> str:
+def loose_cost(rng: Random, kind: str) -> str:
+    delay, depth = number(rng, 17) + rng.choice(["", "", "", ".5"]), number(rng, 17)
+    kind = kind if rng.random() < 0.97 else rng.choice(KINDS)
+    return {"delay": delay, "depth": depth, "both": f"({delay} {depth})"}[kind]
+
+
+def loose_line(rng: Random, n: int, kind: str, word: str, due: int) -> str:
     ends = f"({number(rng, n)} {number(rng, n)})"
     match word:
         case "format":
             k = str(due) if rng.random() < 0.99 else number(rng, n)
             return f"(format {k} {rng.choice('aB')}{rng.choice('01')}{due:02})"
         case "card":
-            return f"(card {ends} {number(rng, 17)}{rng.choice(['', '', '', '.5'])})"
+            return f"(card {ends} {loose_cost(rng, kind)})"
         case "leg":
             return f"(leg {ends})"
         case "end":
             return "(end)"
         case _:
-            return f"(bay {rng.choice(['delay', 'depth'])} {number(rng, 9)})"
+            return f"(bay {rng.choice(KINDS)} {number(rng, 9)})"
 
 
 def loose(rng: Random) -> bytes:
     """Lines in about the right order, with numbers that need not do."""
     n = rng.randint(2, 5)
-    lines = [f"(bay {rng.choice(['delay', 'depth'])} {n})"]
-    lines += [loose_line(rng, n, "format", k) for k in range(n + (rng.random() < 0.02) - (rng.random() < 0.02))]
-    lines += [loose_line(rng, n, "card", 0) for _ in range(rng.randrange(6))]
-    lines += [loose_line(rng, n, "leg", 0) for _ in range(rng.randrange(4))]
+    kind = rng.choice(KINDS)
+    lines = [f"(bay {kind} {n})"]
+    lines += [loose_line(rng, n, kind, "format", k) for k in range(n + (rng.random() < 0.02) - (rng.random() < 0.02))]
+    lines += [loose_line(rng, n, kind, "card", 0) for _ in range(rng.randrange(6))]
+    lines += [loose_line(rng, n, kind, "leg", 0) for _ in range(rng.randrange(4))]
     if rng.random() < 0.2:
         word = rng.choice(["bay", "format", "card", "leg", "end"])
-        lines.insert(rng.randint(0, len(lines)), loose_line(rng, n, word, rng.randrange(n)))
+        lines.insert(rng.randint(0, len(lines)), loose_line(rng, n, kind, word, rng.randrange(n)))
     return "".join(line + "\n" for line in lines + ["(end)"]).encode()
 
 

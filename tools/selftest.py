@@ -33,10 +33,13 @@ SAMPLE_ANSWER = b"""(leg 0 (0 1) 3 (UYVY NV12 v210))
 
 NUMBER = rb"(?:0|[1-9][0-9]{0,6})"
 LINES = {
-    "bay": re.compile(rb"\(bay (?:delay|depth) " + NUMBER + rb"\)\n"),
+    "bay": re.compile(rb"\(bay (?:delay|depth|both) " + NUMBER + rb"\)\n"),
     "format": re.compile(rb"\(format " + NUMBER + rb" [0-9A-Za-z]{4}\)\n"),
     "delay card": re.compile(rb"\(card \(" + NUMBER + b" " + NUMBER + rb"\) (?!-0\))-?" + NUMBER + rb"(?:\.5)?\)\n"),
     "depth card": re.compile(rb"\(card \(" + NUMBER + b" " + NUMBER + rb"\) (?:" + NUMBER + rb"|-[1-9][0-9]{0,6})\)\n"),
+    "both card": re.compile(
+        rb"\(card \(" + NUMBER + b" " + NUMBER + rb"\) \((?!-0 )-?" + NUMBER + rb"(?:\.5)? (?:" + NUMBER + rb"|-[1-9][0-9]{0,6})\)\)\n"
+    ),
     "leg": re.compile(rb"\(leg \(" + NUMBER + b" " + NUMBER + rb"\)\)\n"),
     "end": re.compile(rb"\(end\)\n"),
 }
@@ -45,10 +48,12 @@ STAGES = [
     (model.FORMAT_DUE, ["format"]),
     (model.CARDS_OR_LEGS["delay"], ["delay card", "leg", "end"]),
     (model.CARDS_OR_LEGS["depth"], ["depth card", "leg", "end"]),
+    (model.CARDS_OR_LEGS["both"], ["both card", "leg", "end"]),
     (model.ONLY_LEGS, ["leg", "end"]),
 ]
 # Some end of these makes a whole line of each front of one.
-SAMPLES = [b"(bay delay 1)\n", b"(bay depth 1)\n", b"(format 1 aaaa)\n", b"(card (1 1) 1)\n", b"(card (1 1) 1.5)\n", b"(leg (1 1))\n", b"(end)\n"]
+SAMPLES = [b"(bay delay 1)\n", b"(bay depth 1)\n", b"(bay both 1)\n", b"(format 1 aaaa)\n", b"(card (1 1) 1)\n", b"(card (1 1) 1.5)\n"]
+SAMPLES += [b"(card (1 1) (1 1))\n", b"(card (1 1) (1.5 1))\n", b"(leg (1 1))\n", b"(end)\n"]
 BACKS = [line[k:] for line in SAMPLES for k in range(len(line) + 1)]
 
 
@@ -90,7 +95,7 @@ class Fronts(unittest.TestCase):
                 self.assertEqual(model.fits(lines, front[:k]), fits_by_force(names, bytes(front[:k])), front[:k])
 
     def test_corners(self) -> None:
-        first, formats, cards, deep, legs = (lines for lines, _ in STAGES)
+        first, formats, cards, deep, both, legs = (lines for lines, _ in STAGES)
         for lines, good, bad in [
             (first, b"(bay de", b"(bay dez"),
             (first, b"(bay del", b"(bay dea"),
@@ -110,6 +115,12 @@ class Fronts(unittest.TestCase):
             (deep, b"(card (0 1) -", b"(card (0 1) -0"),
             (deep, b"(card (0 1) 8", b"(card (0 1) 8."),
             (deep, b"(card (0 1) -1", b"(card (0 1) -1."),
+            (both, b"(card (0 1) (-0.5 ", b"(card (0 1) (-0 "),
+            (both, b"(card (0 1) (3 8", b"(card (0 1) (3  8"),
+            (both, b"(card (0 1) (3 8)", b"(card (0 1) (3 8."),
+            (both, b"(card (0 1) (3 8))\n", b"(card (0 1) (3 8)\n"),
+            (both, b"(card (0 1) (", b"(card (0 1) 3"),
+            (cards, b"(card (0 1) 3", b"(card (0 1) ("),
             (cards, b"(card (0 1) -1234567", b"(card (0 1) -12345678"),
             (cards, b"(card (0 1) 0", b"(card (0 1) 0\r"),
             (cards, b"(leg (0 1))", b"(leg (0 1))\0"),
@@ -152,9 +163,11 @@ def random_cards(rng: random.Random, kind: str, n: int) -> Cards:
     density = rng.random()
     pairs = [pair for pair in itertools.permutations(range(n), 2) if rng.random() < density]
     rng.shuffle(pairs)
+    most = rng.choice([1, 2, 16])
     if kind == "depth":
-        most = rng.choice([1, 2, 16])
         return {pair: rng.randint(1, most) for pair in pairs}
+    if kind == "both":
+        return {pair: (delay, rng.randint(1, most)) for pair, delay in random_cards(rng, "delay", n).items()}
     height = [rng.randint(-5, 5) for _ in range(n)]
     slack = rng.choice([0, 1, 3])
     lowest = rng.choice([0, -1])
@@ -162,8 +175,24 @@ def random_cards(rng: random.Random, kind: str, n: int) -> Cards:
     return {(a, b): step * (rng.randint(lowest, slack) + height[b] - height[a]) for a, b in pairs}
 
 
+def total(kind: str, costs: list[model.Cost]) -> model.Cost:
+    """The costs of a walk's cards in one."""
+    if kind == "both":
+        return sum(cost[0] for cost in costs), min((cost[1] for cost in costs), default=255)
+    return sum(costs) if kind == "delay" else min(costs, default=255)
+
+
+def rank(kind: str, cost: model.Cost) -> model.Cost:
+    """A number, or two, by which costs are ordered, the best lowest."""
+    return {"delay": lambda: cost, "depth": lambda: -cost, "both": lambda: (cost[0], -cost[1])}[kind]()
+
+
+def gains_by_force(kind: str, n: int, cards: Cards) -> bool:
+    return any(rank(kind, total(kind, costs_of(cards, loop))) < rank(kind, model.UNIT[kind]) for loop in loops_by_force(n, cards))
+
+
 def random_ticket(rng: random.Random, most_formats: int, most_legs: int) -> bytes:
-    kind = rng.choice(["delay", "depth"])
+    kind = rng.choice(["delay", "depth", "both"])
     n = rng.randint(2, most_formats)
     cards = random_cards(rng, kind, n)
     legs = [rng.choice(list(itertools.product(range(n), repeat=2))) for _ in range(rng.randint(1, most_legs))]
@@ -175,21 +204,20 @@ class Costs(unittest.TestCase):
         rng = random.Random(2)
         seen: Counter[str] = Counter()
         for _ in range(3000):
-            kind = rng.choice(["delay", "depth"])
+            kind = rng.choice(["delay", "depth", "both"])
             n = rng.randint(2, 6)
             cards = random_cards(rng, kind, n)
-            gaining = kind == "delay" and any(sum(costs_of(cards, loop)) < 0 for loop in loops_by_force(n, cards))
-            self.assertEqual(kind == "delay" and model.gains(n, cards), gaining, cards)
+            gaining = gains_by_force(kind, n, cards)
+            self.assertEqual(kind != "depth" and model.gains(n, model.delays(kind, cards)), gaining, cards)
             seen[f"{kind} {gaining}"] += 1
             if gaining:
                 continue
-            total, best = (sum, min) if kind == "delay" else (min, max)
             start = rng.randrange(n)
             least = model.least_costs(kind, n, cards, start)
             self.assertEqual(least[start], model.UNIT[kind], cards)
             for end in set(range(n)) - {start}:
-                costs = [total(costs_of(cards, chain)) for chain in chains_by_force(n, cards, (start, end))]
-                self.assertEqual(least[end], best(costs) if costs else None, cards)
+                costs = [total(kind, costs_of(cards, chain)) for chain in chains_by_force(n, cards, (start, end))]
+                self.assertEqual(least[end], min(costs, key=lambda cost: rank(kind, cost)) if costs else None, cards)
         self.assertGreater(min(seen.values()), 200)
 
     def test_long_loops(self) -> None:
@@ -289,12 +317,24 @@ class Judging(unittest.TestCase):
             cost = Fraction(half_lines, 2)
             sign, lines, half = "-" * (half_lines < 0), abs(half_lines) // 2, ".5" * (half_lines % 2)
             self.assertEqual(model.cost_text(cost), f"{sign}{lines}{half}")
-            self.assertEqual(model.cost_of(model.cost_text(cost).encode()), cost)
+            self.assertEqual(model.cost_of([model.cost_text(cost).encode()]), cost)
             got = refusal(model.ticket_text("delay", CODES[:2], [(0, 1, cost)], [(0, 1)]))
             self.assertEqual(got, None if abs(half_lines) <= 2_000_000 else ("register", 13, 2, 46), half_lines)
         for word in "-0", "8.5", "8.", "-0.5":
             ticket = model.ticket_text("depth", CODES[:2], [(0, 1, 77)], [(0, 1)]).replace(b"77", word.encode())
             self.assertEqual(refusal(ticket), ("ticket", 2, 0, 59), word)
+        self.assertEqual(model.cost_text((Fraction(25, 2), 8)), "(12.5 8)")
+        self.assertEqual(model.cost_text(model.UNIT["both"]), "(0 255)")
+
+    def test_costs_of_two_parts(self) -> None:
+        for cost, expected in [
+            ("(3 8)", None), ("(-0.5 16)", None), ("(1000000 1)", None), ("(3 0)", ("register", 13, 2, 45)),
+            ("(3 17)", ("register", 13, 2, 45)), ("(3 256)", ("register", 13, 2, 45)), ("(3 -1)", ("register", 13, 2, 45)),
+            ("(1000000.5 8)", ("register", 13, 2, 45)), ("3", ("ticket", 2, 0, 57)), ("(3", ("ticket", 2, 0, 59)), ("(3  8)", ("ticket", 2, 0, 60)),
+            ("(3 8", ("ticket", 2, 0, 62)), ("(8.5 -0)", ("ticket", 2, 0, 63)), ("(3 8.5)", ("ticket", 2, 0, 61)), ("(-0 8)", ("ticket", 2, 0, 60)),
+        ]:  # fmt: skip
+            ticket = model.ticket_text("both", CODES[:2], [(0, 1, (7, 7))], [(0, 1)]).replace(b"(7 7)", cost.encode())
+            self.assertEqual(refusal(ticket), expected, cost)
 
     def test_depths(self) -> None:
         for depth in -9999999, -1, 0, 1, 16, 17, 255, 256, 257, 9999999:
@@ -317,11 +357,10 @@ def agree_by_force(chains: list[Chain | None]) -> bool:
 
 
 def answers_by_force(granted: Granted) -> set[bytes]:
-    total = sum if granted.kind == "delay" else lambda costs: min(costs, default=255)
     options: list[list[Chain | None]] = []
     for ends, cost in zip(granted.legs, granted.costs):
         chains = chains_by_force(granted.n, granted.cards, ends)
-        least = [chain for chain in chains if total(costs_of(granted.cards, chain)) == cost]
+        least = [chain for chain in chains if total(granted.kind, costs_of(granted.cards, chain)) == cost]
         options.append(least or [None])
     return {model.granted_text(granted, chains) for chains in itertools.product(*options) if agree_by_force(list(chains))}
 
@@ -363,7 +402,7 @@ class Answers(unittest.TestCase):
                 self.assertEqual(judged.number, 26)
                 seen["loop"] += 1
                 plan = model.read(ticket)
-                loops = [loop for loop in loops_by_force(plan.n, plan.cards) if sum(costs_of(plan.cards, loop)) < 0]
+                loops = [loop for loop in loops_by_force(plan.n, plan.cards) if model.walk_cost("delay", model.delays(plan.kind, plan.cards), loop) < 0]
                 expected = {model.refusal_text(judged) + model.loop_text(plan.codes, loop) for loop in loops}
             got = model.answers(ticket, most=100_000, steps=1_000_000)
             self.assertEqual(len(got), len(set(got)))

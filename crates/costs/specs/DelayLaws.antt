@@ -7,6 +7,7 @@ use Rattle.std.proofs.lemmas.Bool.{leb-true}
 use Rattle.std.proofs.lemmas.Bool.Decides.{nat_tests}
 use Rattle.costs.specs.Algebra.{Lawful}
 use Rattle.costs.specs.Delay.{delay, most_half_lines}
+use Rattle.costs.specs.Strict.{Strict}
 
 one_of : (a b : ℤ) → (a <ℤ b) ⊎ ((a ≡ b) ⊎ (b <ℤ a))
 one_of a b = by_lt_z a b inl (λ up. inr (by_lt_z b a inr (λ down. inl (omega (arith, ints)))))
@@ -36,3 +37,6 @@ delay_lawful = record {
   within_more = λ m k a p q h. omega arith;
   within_join = λ m k a b f p q. within_join m k a b p q;
 }
+
+pub delay_strict : Strict delay
+delay_strict a b c u = omega (arith, ints)

@@ -5,3 +5,6 @@ pub mod Depth
 pub mod DelayLaws
 pub mod DepthLaws
 pub mod Kinds
+pub mod Strict
+pub mod Pair
+pub mod PairLaws

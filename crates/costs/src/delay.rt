@@ -1,9 +1,9 @@
 // Delay in half lines of video, since interlaced suppliers declare half lines. A converter that reads ahead gives lines back, so a
 // delay has a sign.
 ghost use Rattle.costs.specs.Delay.{delay};
-ghost use Rattle.costs.specs.DelayLaws.{delay_lawful};
+ghost use Rattle.costs.specs.DelayLaws.{delay_lawful, delay_strict};
 
-use crate::Cost;
+use crate::{Cost, StrictCost};
 
 // A card's delay is at most so many half lines from 0: a million lines.
 const MOST_HALF_LINES: i32 = 2_000_000;
@@ -39,5 +39,19 @@ impl Cost for Delay {
 
     fn admitted(self) -> bool {
         (-MOST_HALF_LINES..=MOST_HALF_LINES).contains(&self.half_lines)
+    }
+}
+
+impl StrictCost for Delay {
+    ghost order = { delay };
+
+    ghost place = { λ d. d.half_lines };
+
+    ghost ordered = { delay_lawful };
+
+    ghost strict = { delay_strict };
+
+    fn precedes(self, other: Delay) -> bool {
+        self.undercuts(other)
     }
 }

@@ -4,12 +4,15 @@
 
 mod delay;
 mod depth;
+mod pair;
 
 ghost use Rattle.std.specs.Prelude.{◌≡◌, true, false};
 ghost use Rattle.costs.specs.Algebra.{Algebra, Lawful, IsJoin};
+ghost use Rattle.costs.specs.Strict.{Strict, Tells};
 
 pub use delay::Delay;
 pub use depth::Depth;
+pub use pair::Pair;
 
 // A cost kind. Its contracts speak of what a held cost means, by `value`.
 pub trait Cost: Copy {
@@ -37,6 +40,23 @@ pub trait Cost: Copy {
 
     // What each kind proves of its meaning.
     ghost lawful: { Lawful algebra };
+}
+
+// A cost kind in which undercutting stays strict when both sides are combined with the same cost. Its order has a meaning and laws of
+// its own, and says of two costs what the kind says.
+pub trait StrictCost: Cost {
+    ghost order: { Algebra };
+
+    ghost place: { Self → order.Value };
+
+    // Whether `self` comes strictly before `other`, which is whether it undercuts it.
+    fn precedes(self, other: Self) -> bool
+        ensures before { Tells result (order.Under (place self) (place other)) }
+        ensures agrees { Tells result (Self.algebra.Under (Self.value self) (Self.value other)) };
+
+    ghost ordered: { Lawful order };
+
+    ghost strict: { Strict Self.algebra };
 }
 
 #[cfg(test)]

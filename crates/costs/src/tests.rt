@@ -1,5 +1,5 @@
 // The kinds at their bounds.
-use crate::{Cost, Delay, Depth};
+use crate::{Cost, Delay, Depth, Pair};
 
 fn delay(half_lines: i32) -> Delay {
     Delay { half_lines }
@@ -7,6 +7,25 @@ fn delay(half_lines: i32) -> Delay {
 
 fn depth(bits: u8) -> Depth {
     Depth { bits }
+}
+
+fn pair(half_lines: i32, bits: u8) -> Pair<Delay, Depth> {
+    Pair {
+        first: delay(half_lines),
+        second: depth(bits),
+    }
+}
+
+#[test]
+fn of_two_costs_the_first_parts_decide(rt: HostRuntime) {
+    assert!(rt; pair(5, 1).undercuts(pair(6, 16)) && !pair(6, 16).undercuts(pair(5, 1)));
+    assert!(rt; pair(6, 10).undercuts(pair(6, 8)) && !pair(6, 8).undercuts(pair(6, 10)));
+    assert!(rt; !pair(6, 8).undercuts(pair(6, 8)));
+    assert_eq!(rt; pair(2, 8).join(pair(3, 10)), pair(5, 8));
+    assert_eq!(rt; Pair::unit(), pair(0, 255));
+    assert!(rt;
+        pair(0, 16).admitted() && !pair(0, 17).admitted() && !pair(2_000_001, 16).admitted()
+    );
 }
 
 #[test]

@@ -2,12 +2,16 @@
 // nothing from one call to the next, and work in some hundred thousand bytes of the stack.
 #![tactic(auto)]
 
+mod both;
+
 ghost use Rattle.std.specs.Prelude.{◌≡◌};
 ghost use Rattle.costs.specs.Kinds.{delays, depths};
 ghost use Rattle.bay.specs.Faults.{refused};
+ghost use Rattle.hurzelma.specs.Both.{crossing};
 ghost use Rattle.hurzelma.specs.Host.{fault_number, status, RouteTold, TextTold};
 
 use bay::{BayFault, Cell, Ends};
+use both::Both;
 use costs::{Cost, Delay, Depth};
 use direct::route_cards;
 use listing::answer_on_stack;
@@ -50,6 +54,19 @@ fn status(answer: Result<usize, BayFault>) -> u32
     }
 }
 
+// A route with a table of its own on the stack. A macro: a function over every kind would owe that the kind's costs have a size.
+macro_rules! routed {
+    ($n:expr, $cards:expr, $legs:expr, $costs:expr, $chains:expr) => {
+        if $n <= FEW_FORMATS {
+            let mut table = [Cell::empty(); FEW_CELLS];
+            status(route_cards($n, $cards, $legs, &mut table, $costs, $chains))
+        } else {
+            let mut table = [Cell::empty(); CELLS];
+            status(route_cards($n, $cards, $legs, &mut table, $costs, $chains))
+        }
+    };
+}
+
 // Routes legs over delays, row by row: 0, or the number of the fault.
 #[unsafe(no_mangle)]
 pub extern "C" fn hurzelma_route_delay(
@@ -62,13 +79,7 @@ pub extern "C" fn hurzelma_route_delay(
     ensures { RouteTold delays n cards.now legs.now costs.old costs.new
         chains.old chains.new result }
 {
-    if n <= FEW_FORMATS {
-        let mut table = [Cell::empty(); FEW_CELLS];
-        status(route_cards(n, cards, legs, &mut table, costs, chains))
-    } else {
-        let mut table = [Cell::empty(); CELLS];
-        status(route_cards(n, cards, legs, &mut table, costs, chains))
-    }
+    routed!(n, cards, legs, costs, chains)
 }
 
 // Routes legs over depths, row by row: 0, or the number of the fault.
@@ -83,13 +94,22 @@ pub extern "C" fn hurzelma_route_depth(
     ensures { RouteTold depths n cards.now legs.now costs.old costs.new
         chains.old chains.new result }
 {
-    if n <= FEW_FORMATS {
-        let mut table = [Cell::empty(); FEW_CELLS];
-        status(route_cards(n, cards, legs, &mut table, costs, chains))
-    } else {
-        let mut table = [Cell::empty(); CELLS];
-        status(route_cards(n, cards, legs, &mut table, costs, chains))
-    }
+    routed!(n, cards, legs, costs, chains)
+}
+
+// Routes legs over delays and depths, row by row: 0, or the number of the fault. Depths decide where delays are equal.
+#[unsafe(no_mangle)]
+pub extern "C" fn hurzelma_route_both(
+    n: usize,
+    cards: &[Both],
+    legs: &[Ends],
+    costs: &mut [Both],
+    chains: &mut [u8],
+) -> u32
+    ensures { RouteTold crossing n cards.now legs.now costs.old costs.new
+        chains.old chains.new result }
+{
+    routed!(n, cards, legs, costs, chains)
 }
 
 // Routes a ticket and writes the text of its answer. The length is that of the text, or what a place too short would need.

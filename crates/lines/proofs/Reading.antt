@@ -1,14 +1,16 @@
 -- The reader over the bytes of a text: what it knows at each place.
 -- Where it waits, some allowed line goes on; where a byte is refused, none does.
-use Rattle.std.proofs.Common.{◌≡◌, ℕ, ◌+◌, ◌-◌, ◌*◌, ◌<◌, ◌≤◌, Bool, true, false, cond, ◌&&◌, eqb, List, [], ◌∷◌, ◌++◌, length, get_or, take, drop, Some, None, Option, codes, sym, refl, ap, ◌∙◌, subst, arith}
+use Rattle.std.proofs.Common.{◌≡◌, ℕ, ◌+◌, ◌-◌, ◌*◌, ◌<◌, ◌≤◌, Bool, true, false, cond, ◌&&◌, eqb, List, [], ◌∷◌, ◌++◌, length, get_or, take, drop, Some, None, Option, ℤ, codes, sym, refl, ap, ◌∙◌, subst, arith}
 use Rattle.std.proofs.lemmas.List.{take_more, take_all, take-append-drop, drop-drop, get_or-drop, length-drop, length-take-le}
-use Rattle.std.proofs.lemmas.Bool.{ne_eqb, cond-false, false≢true}
+use Rattle.std.proofs.lemmas.Bool.{ne_eqb, cond-false, both_ways}
 use Rattle.lines.specs.Signs.{digit}
 use Rattle.lines.specs.Grammar.{line_text, Allowed, FourSigns, Fits, Unfinished, part, number_begins, code_begins, IsRead}
 use Rattle.std.proofs.lemmas.Bool.{cond_both}
-use Rattle.lines.specs.Rests.{Rest, dead, over, on, number, after_byte, fixed, letters_of, ending, closing, size_rest, code_rest, number_rest, delay_line, depth_line, half_more, lines_end, lines_rest, bits_end, bits_rest, cost_rest, pair_end, to_rest, from_rest, kind_choice, is_front, kind_rest, word_end, word_rest, first_rest, line_rest, reading, lines_reading, bits_reading, rest_at, to_come}
+use Rattle.lines.specs.Rests.{Rest, dead, over, on, number, after_byte, fixed, letters_of, ending, closing, size_rest, code_rest, number_rest, signed, lines_end, lines_rest, bits_end, bits_rest, delay_end, depth_end, both_end, second_part, cost_rest, of_two, after_lines, after_bits, pair_end, to_rest, from_rest, de_choice, kind_choice, is_front, kind_rest, word_end, word_rest, first_rest, line_rest, reading, lines_reading, bits_reading, rest_at, to_come}
 use Rattle.lines.specs.declared.line.Kind.{Kind}
-use Rattle.lines.specs.declared.line.Kind.TheVariants.{Delay, Depth}
+use Rattle.lines.specs.declared.line.Kind.TheVariants.{Delay, Depth, Both}
+use Rattle.lines.specs.declared.line.Amount.TheVariants as amount
+use Rattle.lines.specs.declared.line.Amount.TheVariants.{HalfLines}
 use Rattle.lines.specs.declared.line.Line.{Line}
 use Rattle.lines.specs.declared.line.Line.TheVariants as line
 use Rattle.lines.specs.declared.line.Read.{Read}
@@ -19,7 +21,7 @@ use Rattle.lines.specs.declared.words.Word.TheVariants.{Bay, Format, Card, Leg, 
 use Rattle.lines.specs.declared.words.Word.TheVariants as word
 use Rattle.lines.specs.declared.reader.Reader.{Reader}
 use Rattle.lines.specs.declared.reader.State.{State}
-use Rattle.lines.specs.declared.reader.State.TheVariants.{Opening, First, InWord, InKind, Pair, Size, Number, From, To, PairEnd, Lines, Point, Closing, Bits, InCode, Ending, Over}
+use Rattle.lines.specs.declared.reader.State.TheVariants.{Opening, First, InWord, InKind, Pair, Size, Number, From, To, PairEnd, Parts, Lines, Point, Half, Bits, Closing, InCode, Ending, Over}
 use Rattle.lines.proofs.Runs.{run, run_append, not_dead, Fine, fine_run, ends, Waits, waits_not_dead, waits_fixed, waits_signs, Undigited, Live, live_fixed, live_signs, live_number, live_stopped}
 use Rattle.lines.proofs.Lines.{complete, sound}
 
@@ -30,60 +32,72 @@ live_over w l = live_fixed w (over l) (tt, tt)
 live_size : (kind : Kind) → Live (size_rest kind)
 live_size kind = live_stopped 0 41 (λ n. ending (line.Bay kind n)) (omega arith) refl (λ n. live_over (10 ∷ []) (line.Bay kind n))
 
-live_kind : Live kind_choice
-live_kind =
+live_de : Live de_choice
+live_de =
     let d = live_fixed (codes "ay ") (size_rest Delay) (live_size Delay) in
     let e = live_fixed (codes "th ") (size_rest Depth) (live_size Depth) in
     ((d.0, d.1, (e.0, e.1, tt)), tt)
+
+live_kind : Live kind_choice
+live_kind =
+    let b = live_fixed (codes "oth ") (size_rest Both) (live_size Both) in
+    let d = live_fixed (codes "de") de_choice live_de in
+    ((b.0, b.1, d.0), tt)
 
 -- a minus, and then a number
 live_signed : (low : ℕ) (below not_below : ℕ → Rest) → Live (number low below) → Live (number 0 not_below) → Live (on 45 (number low below) (number 0 not_below))
 live_signed low below not_below m p = ((m.0, m.1, p.0), tt)
 
+-- what follows a number: fine, waiting, and no digit
+abbrev Follows : Rest → Type 0
+Follows r = Fine r × Waits r × Undigited r
+
+-- a byte that is no digit, and what follows it
+follows_on : (b : ℕ) (r s : Rest) → digit b ≡ false → Live r → Fine s → Undigited s → Follows (on b r s)
+follows_on b r s apart live fine undigited = ((live.0, live.1, fine), tt, λ c d. cond-false (eqb c b) r (after_byte s c) (ne_eqb c b (λ e. both_ways (digit c) (ap digit e ∙ apart) d)) ∙ undigited c d)
+
+follows_then : (b : ℕ) (r : Rest) → digit b ≡ false → Live r → Follows (on b r dead)
+follows_then b r apart live = follows_on b r dead apart live tt (λ c d. refl)
+
+live_follows : (r : Rest) → Follows r → Live r
+live_follows r h = (h.0, waits_not_dead r h.1)
+
 -- what may follow the whole lines of a delay is no digit
-lines_ended : (a b : ℕ) (minus : Bool) (n : ℕ) → Fine (lines_end a b minus n) × Waits (lines_end a b minus n) × Undigited (lines_end a b minus n)
-lines_ended a b minus n = by_test (minus && eqb n 0)
+follows_lines : (next : ℤ → Rest) → ((z : ℤ) → Follows (next z)) → (minus : Bool) (n : ℕ) → Follows (lines_end next minus n)
+follows_lines next h minus n =
+    follows_on 46 (fixed (codes "5") (next (signed minus (2 * n + 1)))) (cond (minus && eqb n 0) dead (next (signed minus (2 * n)))) refl
+    (live_fixed (codes "5") (next (signed minus (2 * n + 1))) (live_follows _ (h _)))
+    (by_test (minus && eqb n 0)).0 (by_test (minus && eqb n 0)).1
   where
-    half : Rest
-    half = half_more a b minus n
+    by_test : (t : Bool) → Fine (cond t dead (next (signed minus (2 * n)))) × Undigited (cond t dead (next (signed minus (2 * n))))
+    by_test true = (tt, λ c d. refl)
+    by_test false = ((h (signed minus (2 * n))).0, (h (signed minus (2 * n))).2)
 
-    whole : Rest
-    whole = ending (delay_line a b minus (2 * n))
+live_lines : (next : ℤ → Rest) → ((z : ℤ) → Follows (next z)) → Live (lines_rest next)
+live_lines next h =
+    live_signed 0 (lines_end next true) (lines_end next false)
+    (live_number 0 (lines_end next true) (omega arith) (follows_lines next h true))
+    (live_number 0 (lines_end next false) (omega arith) (follows_lines next h false))
 
-    live_half : Live half
-    live_half = live_over (46 ∷ 53 ∷ 41 ∷ 10 ∷ []) (delay_line a b minus (2 * n + 1))
+live_bits : (next : ℤ → Rest) → ((z : ℤ) → Follows (next z)) → Live (bits_rest next)
+live_bits next h =
+    live_signed 1 (bits_end next true) (bits_end next false)
+    (live_number 1 (bits_end next true) (omega arith) (λ n. h (signed true n)))
+    (live_number 0 (bits_end next false) (omega arith) (λ n. h (signed false n)))
 
-    live_whole : Live whole
-    live_whole = live_over (10 ∷ []) (delay_line a b minus (2 * n))
+follows_closing : (l : Line) → Follows (closing l)
+follows_closing l = follows_then 41 (ending l) refl (live_over (10 ∷ []) l)
 
-    no_point : (c : ℕ) → digit c ≡ true → eqb c 46 ≡ false
-    no_point c d = ne_eqb c 46 (λ e. false≢true (sym (ap digit e) ∙ d))
+follows_both : (a b : ℕ) (z w : ℤ) → Follows (both_end a b z w)
+follows_both a b z w = follows_then 41 (closing (line.Card a b (amount.Both z w))) refl (live_over (41 ∷ 10 ∷ []) (line.Card a b (amount.Both z w)))
 
-    no_closing : (c : ℕ) → digit c ≡ true → eqb c 41 ≡ false
-    no_closing c d = ne_eqb c 41 (λ e. false≢true (sym (ap digit e) ∙ d))
-
-    undigited_half : Undigited half
-    undigited_half c d = cond-false (eqb c 46) _ dead (no_point c d)
-
-    by_test : (t : Bool) → Fine (cond t half (on 41 whole half)) × Waits (cond t half (on 41 whole half)) × Undigited (cond t half (on 41 whole half))
-    by_test true = (live_half.0, tt, undigited_half)
-    by_test false = ((live_whole.0, live_whole.1, live_half.0), tt, λ c d. cond-false (eqb c 41) whole (after_byte half c) (no_closing c d) ∙ undigited_half c d)
-
-live_lines : (a b : ℕ) → Live (lines_rest a b)
-live_lines a b =
-    live_signed 0 (lines_end a b true) (lines_end a b false)
-    (live_number 0 (lines_end a b true) (omega arith) (lines_ended a b true))
-    (live_number 0 (lines_end a b false) (omega arith) (lines_ended a b false))
-
-live_bits : (a b : ℕ) → Live (bits_rest a b)
-live_bits a b =
-    live_signed 1 (bits_end a b true) (bits_end a b false)
-    (live_stopped 1 41 (λ n. ending (depth_line a b true n)) (omega arith) refl (λ n. live_over (10 ∷ []) (depth_line a b true n)))
-    (live_stopped 0 41 (λ n. ending (depth_line a b false n)) (omega arith) refl (λ n. live_over (10 ∷ []) (depth_line a b false n)))
+follows_first : (a b : ℕ) (z : ℤ) → Follows (second_part a b z)
+follows_first a b z = follows_then 32 (bits_rest (both_end a b z)) refl (live_bits (both_end a b z) (follows_both a b z))
 
 live_cost : (kind : Kind) (a b : ℕ) → Live (cost_rest (Cards kind) a b)
-live_cost Delay a b = live_lines a b
-live_cost Depth a b = live_bits a b
+live_cost Delay a b = live_lines (delay_end a b) (λ z. follows_closing (line.Card a b (HalfLines z)))
+live_cost Depth a b = live_bits (depth_end a b) (λ z. follows_closing (line.Card a b (amount.Bits z)))
+live_cost Both a b = live_fixed (codes "(") (lines_rest (second_part a b)) (live_lines (second_part a b) (follows_first a b))
 
 live_card : (kind : Kind) → Live (word_rest (Cards kind) word.Card 1)
 live_card kind = live_fixed (codes "ard (") (from_rest (Cards kind) word.Card) (live_stopped 0 32 (to_rest (Cards kind) word.Card) (omega arith) refl
@@ -103,7 +117,7 @@ live_cards : (kind : Kind) → Live (first_rest (Cards kind))
 live_cards kind = let k = live_card kind in ((k.0, k.1, live_legs.0), tt)
 
 fine_line : (stage : Stage) → Fine (line_rest stage)
-fine_line Start = (live_fixed (codes "(bay de") kind_choice live_kind).0
+fine_line Start = (live_fixed (codes "(bay ") kind_choice live_kind).0
 fine_line Formats = (live_fixed (codes "(format ") number_rest (live_stopped 0 32 (λ k. code_rest k 0 []) (omega arith) refl
     (λ k. live_signs 4 (λ cs. closing (line.Format k cs)) (λ cs. live_over (41 ∷ 10 ∷ []) (line.Format k cs))))).0
 fine_line (Cards kind) = (live_fixed (codes "(") (first_rest (Cards kind)) (live_cards kind)).0
@@ -114,17 +128,21 @@ waits_reading : (value : Option ℕ) (stop : ℕ) (next : ℕ → Rest) → Wait
 waits_reading (Some n) stop next = tt
 waits_reading None stop next = tt
 
-waits_lines : (minus : Bool) (value : Option ℕ) (a b : ℕ) → Waits (lines_reading minus value a b)
-waits_lines true (Some n) a b = tt
-waits_lines true None a b = tt
-waits_lines false (Some n) a b = tt
-waits_lines false None a b = tt
+waits_lines : (next : ℤ → Rest) (minus : Bool) (value : Option ℕ) → Waits (lines_reading next minus value)
+waits_lines next true (Some n) = tt
+waits_lines next true None = tt
+waits_lines next false (Some n) = tt
+waits_lines next false None = tt
 
-waits_bits : (minus : Bool) (value : Option ℕ) (a b : ℕ) → Waits (bits_reading minus value a b)
-waits_bits true (Some n) a b = tt
-waits_bits true None a b = tt
-waits_bits false (Some n) a b = tt
-waits_bits false None a b = tt
+waits_bits : (next : ℤ → Rest) (minus : Bool) (value : Option ℕ) → Waits (bits_reading next minus value)
+waits_bits next true (Some n) = tt
+waits_bits next true None = tt
+waits_bits next false (Some n) = tt
+waits_bits next false None = tt
+
+waits_half : (two : Bool) (a b : ℕ) (z : ℤ) → Waits (after_lines two a b z)
+waits_half true a b z = tt
+waits_half false a b z = tt
 
 waits_first : (stage : Stage) → Waits (first_rest stage)
 waits_first Start = tt
@@ -148,9 +166,11 @@ waits_pair stage word.End a b = tt
 
 waits_kind : (ls : List ℕ) → Waits (kind_rest ls)
 waits_kind ls =
-    cond_both (is_front ls (codes "de")) _ _ Waits (λ _. waits_fixed (drop (length ls) (codes "de")) kind_choice tt) (λ _.
+    cond_both (eqb (length ls) 0) _ _ Waits (λ _. tt) (λ _.
+    cond_both (is_front ls (codes "de")) _ _ Waits (λ _. waits_fixed (drop (length ls) (codes "de")) de_choice tt) (λ _.
     cond_both (is_front ls (codes "delay")) _ _ Waits (λ _. waits_fixed (drop (length ls) (codes "delay ")) (size_rest Delay) tt) (λ _.
-    cond_both (is_front ls (codes "depth")) _ _ Waits (λ _. waits_fixed (drop (length ls) (codes "depth ")) (size_rest Depth) tt) (λ _. tt)))
+    cond_both (is_front ls (codes "depth")) _ _ Waits (λ _. waits_fixed (drop (length ls) (codes "depth ")) (size_rest Depth) tt) (λ _.
+    cond_both (is_front ls (codes "both")) _ _ Waits (λ _. waits_fixed (drop (length ls) (codes "both ")) (size_rest Both) tt) (λ _. tt)))))
 
 waits_at : (s : State) (r : Reader) → (s ≡ Over → ⊥) → Waits (rest_at s r)
 waits_at Opening r n = tt
@@ -163,10 +183,12 @@ waits_at Number r n = waits_reading r.numeral.value 32 (λ k. code_rest k 0 [])
 waits_at From r n = waits_reading r.numeral.value 32 (λ a. to_rest r.stage r.word a)
 waits_at To r n = waits_reading r.numeral.value 41 (λ b. pair_end r.stage r.word r.first b)
 waits_at PairEnd r n = waits_pair r.stage r.word r.first r.second
-waits_at Lines r n = waits_lines r.numeral.minus r.numeral.value r.first r.second
+waits_at Parts r n = tt
+waits_at Lines r n = waits_lines (after_lines (of_two r.stage) r.first r.second) r.numeral.minus r.numeral.value
 waits_at Point r n = tt
+waits_at Half r n = waits_half (of_two r.stage) r.first r.second r.half_lines
+waits_at Bits r n = waits_bits (after_bits (of_two r.stage) r.first r.second r.half_lines) r.numeral.minus r.numeral.value
 waits_at Closing r n = tt
-waits_at Bits r n = waits_bits r.numeral.minus r.numeral.value r.first r.second
 waits_at InCode r n = waits_signs (4 - r.at) (λ cs. closing (line.Format r.first (take r.at r.code ++ cs))) (λ cs. tt)
 waits_at Ending r n = tt
 waits_at Over r n = absurd (n refl)

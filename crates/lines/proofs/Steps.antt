@@ -1,22 +1,22 @@
 -- One step of the reader inside a word or a code, where how far it has come is a variable.
 -- The other steps compute.
-use Rattle.std.proofs.Common.{◌≡◌, ℕ, zero, suc, ◌+◌, ◌-◌, ◌<◌, ◌≤◌, Bool, true, false, cond, ◌&&◌, ◌||◌, eqb, List, [], ◌∷◌, ◌++◌, length, get_or, take, drop, set, codes, sym, refl, ap, ◌∙◌, inl, inr, append_assoc, arith}
+use Rattle.std.proofs.Common.{◌≡◌, ℕ, zero, suc, ◌+◌, ◌-◌, ◌*◌, ◌<◌, ◌≤◌, Bool, true, false, cond, ◌&&◌, ◌||◌, eqb, leb, ℤ, Some, None, Option, List, [], ◌∷◌, ◌++◌, length, get_or, take, drop, set, codes, sym, refl, ap, ◌∙◌, inl, inr, append_assoc, arith}
 use mathlib.Core.Path.{fun_ext}
 use Rattle.std.specs.Bool.{Decides}
 use Rattle.std.proofs.lemmas.List.{drop_more, drop_all, take_more_set, take_all, append-nil, get_or_append_left, length-take-le}
 use Rattle.std.proofs.lemmas.Bool.{ne_eqb, eq-eqb, eqb-true, and_parts, and_from, cond_both, cond-true, cond-false, cases_lt, both_ways, false≢true, false_from_ne_true}
 use Rattle.std.proofs.lemmas.Bool.Decides.{nat_tests}
 use Rattle.lines.specs.Signs.{digit, letter, sort_of}
-use Rattle.lines.specs.Rests.{Rest, dead, after_byte, left, fixed, signs, letters_of, word_end, word_rest, is_front, kind_rest, kind_choice, size_rest, code_rest, closing, to_come, rest_at}
+use Rattle.lines.specs.Rests.{Rest, dead, after_byte, left, fixed, signs, letters_of, word_end, word_rest, is_front, kind_rest, de_choice, kind_choice, size_rest, code_rest, closing, number, digits, signed, lines_end, bits_end, lines_reading, bits_reading, of_two, after_lines, after_bits, to_come, rest_at}
 use Rattle.lines.specs.Grammar.{kind_text}
 use Rattle.lines.specs.declared.line.Kind.{Kind}
-use Rattle.lines.specs.declared.line.Kind.TheVariants.{Delay, Depth}
+use Rattle.lines.specs.declared.line.Kind.TheVariants.{Delay, Depth, Both}
 use Rattle.lines.specs.declared.line.Line.TheVariants as line
 use Rattle.lines.specs.declared.line.Stage.{Stage}
 use Rattle.lines.specs.declared.reader.Reader.{Reader}
 use Rattle.lines.specs.declared.reader.State.{State}
-use Rattle.lines.specs.declared.reader.State.TheVariants.{InWord, InKind, InCode}
-use Rattle.lines.specs.declared.sort.Sort.TheVariants.{Letter, Digit, Space, Close}
+use Rattle.lines.specs.declared.reader.State.TheVariants.{InWord, InKind, InCode, Lines, Bits}
+use Rattle.lines.specs.declared.sort.Sort.TheVariants.{Letter, Digit, Space, Close, Minus, Point}
 use Rattle.lines.specs.declared.words.Word.{Word}
 use Rattle.lines.specs.declared.words.Word.TheVariants.{Bay, Format, Card, Leg, End}
 
@@ -112,8 +112,12 @@ word_stops r c e n s t = elim (cases_lt r.at (length (letters_of r.word))) [
 ]
 
 -- The reader in a kind.
+-- some kind's word begins with these letters
+abbrev pub begins : List ℕ → Bool
+begins ls = is_front ls (codes "delay") || is_front ls (codes "depth") || is_front ls (codes "both")
+
 -- one letter more
-pub kind_goes : (ls : List ℕ) (c : ℕ) → length ls < 5 → (is_front (ls ++ c ∷ []) (codes "delay") || is_front (ls ++ c ∷ []) (codes "depth")) ≡ true → kind_rest (ls ++ c ∷ []) ≡ after_byte (kind_rest ls) c
+pub kind_goes : (ls : List ℕ) (c : ℕ) → length ls < 5 → begins (ls ++ c ∷ []) ≡ true → kind_rest (ls ++ c ∷ []) ≡ after_byte (kind_rest ls) c
 kind_goes [] c l h = grind (arith, nat_tests)
 kind_goes (x ∷ []) c l h = grind (arith, nat_tests)
 kind_goes (x ∷ y ∷ []) c l h = grind (arith, nat_tests)
@@ -121,7 +125,7 @@ kind_goes (x ∷ y ∷ z ∷ []) c l h = grind (arith, nat_tests)
 kind_goes (x ∷ y ∷ z ∷ w ∷ []) c l h = grind (arith, nat_tests)
 kind_goes (x ∷ y ∷ z ∷ w ∷ v ∷ ls) c l h = absurd (omega arith)
 
-pub kind_refuses : (ls : List ℕ) (c : ℕ) → length ls < 5 → letter c ≡ true → (is_front (ls ++ c ∷ []) (codes "delay") || is_front (ls ++ c ∷ []) (codes "depth")) ≡ false → dead ≡ after_byte (kind_rest ls) c
+pub kind_refuses : (ls : List ℕ) (c : ℕ) → length ls < 5 → letter c ≡ true → begins (ls ++ c ∷ []) ≡ false → dead ≡ after_byte (kind_rest ls) c
 kind_refuses [] c l k h = grind (arith, nat_tests)
 kind_refuses (x ∷ []) c l k h = grind (arith, nat_tests)
 kind_refuses (x ∷ y ∷ []) c l k h = grind (arith, nat_tests)
@@ -162,26 +166,33 @@ letter_of w at c h l no_letter e = both_ways (letter c) no_letter (sym (ap lette
 
 -- a byte after some letters of a kind, by what they begin
 kind_stops_at : (ls : List ℕ) (c : ℕ)
-    → (is_front ls (codes "de") ≡ true → after_byte (fixed (drop (length ls) (codes "de")) kind_choice) c ≡ dead)
+    → (length ls ≡ 0 → after_byte kind_choice c ≡ dead)
+    → (is_front ls (codes "de") ≡ true → after_byte (fixed (drop (length ls) (codes "de")) de_choice) c ≡ dead)
     → (is_front ls (codes "delay") ≡ true → (get_or (codes "delay ") (length ls) 0 ≡ c → ⊥))
     → (is_front ls (codes "depth") ≡ true → (get_or (codes "depth ") (length ls) 0 ≡ c → ⊥))
+    → (is_front ls (codes "both") ≡ true → (get_or (codes "both ") (length ls) 0 ≡ c → ⊥))
     → dead ≡ after_byte (kind_rest ls) c
-kind_stops_at ls c both delay depth =
+kind_stops_at ls c none two delay depth both =
     let dies : Rest → Type 0 = λ t. dead ≡ after_byte t c in
-    cond_both (is_front ls (codes "de")) _ _ dies (λ h. sym (both h)) (λ _.
+    cond_both (eqb (length ls) 0) _ _ dies (λ h. sym (none (eqb-true (length ls) 0 h))) (λ _.
+    cond_both (is_front ls (codes "de")) _ _ dies (λ h. sym (two h)) (λ _.
     cond_both (is_front ls (codes "delay")) _ _ dies (λ h. sym (fixed_stops (codes "delay ") (length ls) c (size_rest Delay) (omega (arith, front_short ls (codes "delay") h)) (delay h))) (λ _.
     cond_both (is_front ls (codes "depth")) _ _ dies (λ h. sym (fixed_stops (codes "depth ") (length ls) c (size_rest Depth) (omega (arith, front_short ls (codes "depth") h)) (depth h))) (λ _.
-    sym (stuck_stops (eqb c 0)))))
+    cond_both (is_front ls (codes "both")) _ _ dies (λ h. sym (fixed_stops (codes "both ") (length ls) c (size_rest Both) (omega (arith, front_short ls (codes "both") h)) (both h))) (λ _.
+    sym (stuck_stops (eqb c 0)))))))
   where
     stuck_stops : (t : Bool) → cond t dead dead ≡ dead
     stuck_stops true = refl
     stuck_stops false = refl
 
--- after the first two, no other byte than a letter
-de_stops : (ls : List ℕ) (c : ℕ) → letter c ≡ false → after_byte (fixed (drop (length ls) (codes "de")) kind_choice) c ≡ dead
+-- before the first letter, and after the first two that delay and depth have in common, no other byte than a letter
+none_stops : (c : ℕ) → letter c ≡ false → after_byte kind_choice c ≡ dead
+none_stops c other = grind (arith, nat_tests)
+
+de_stops : (ls : List ℕ) (c : ℕ) → letter c ≡ false → after_byte (fixed (drop (length ls) (codes "de")) de_choice) c ≡ dead
 de_stops ls c other = elim (cases_lt (length ls) 2) [
-  | inl l ↦ fixed_stops (codes "de") (length ls) c kind_choice l (λ same. both_ways (letter c) other (sym (ap letter same) ∙ letter_at (codes "de") (length ls) refl l))
-  | inr l ↦ ap (λ t. after_byte t c) (fixed_ends (codes "de") (length ls) kind_choice l) ∙ grind (arith, nat_tests)
+  | inl l ↦ fixed_stops (codes "de") (length ls) c de_choice l (λ same. both_ways (letter c) other (sym (ap letter same) ∙ letter_at (codes "de") (length ls) refl l))
+  | inr l ↦ ap (λ t. after_byte t c) (fixed_ends (codes "de") (length ls) de_choice l) ∙ grind (arith, nat_tests)
 ]
 
 -- what is neither a letter nor a space
@@ -189,15 +200,17 @@ pub kind_stops : (r : Reader) (c : ℕ) → r.state ≡ InKind → (sort_of c �
 kind_stops r c e n s =
     let other = no_letter c n in
     let ls = take r.at r.letters in
-    kind_stops_at ls c (λ _. de_stops ls c other)
+    kind_stops_at ls c (λ _. none_stops c other) (λ _. de_stops ls c other)
     (λ h. spaced_at (codes "delay") (length ls) c refl (front_short ls (codes "delay") h) other (no_space c s))
     (λ h. spaced_at (codes "depth") (length ls) c refl (front_short ls (codes "depth") h) other (no_space c s))
+    (λ h. spaced_at (codes "both") (length ls) c refl (front_short ls (codes "both") h) other (no_space c s))
     ∙ sym (ap (λ t. after_byte t c) (in_state r InKind e))
 
 -- a space, where the letters are no kind's word
 pub kind_unnamed : (ls : List ℕ) → ((kind : Kind) → ls ≡ kind_text kind → ⊥) → dead ≡ after_byte (kind_rest ls) 32
 kind_unnamed ls none =
-    kind_stops_at ls 32 (λ _. de_stops ls 32 refl) (λ h. part_of (codes "delay") refl h (none Delay)) (λ h. part_of (codes "depth") refl h (none Depth))
+    kind_stops_at ls 32 (λ _. none_stops 32 refl) (λ _. de_stops ls 32 refl) (λ h. part_of (codes "delay") refl h (none Delay)) (λ h. part_of (codes "depth") refl h (none Depth))
+    (λ h. part_of (codes "both") refl h (none Both))
   where
     part_of : (w : List ℕ) → all_letters w ≡ true → is_front ls w ≡ true → (ls ≡ w → ⊥) → get_or (w ++ 32 ∷ []) (length ls) 0 ≡ 32 → ⊥
     part_of w h b apart e = elim (cases_lt (length ls) (length w)) [
@@ -205,19 +218,20 @@ kind_unnamed ls none =
       | inr l ↦ apart (front_is ls w b ∙ take_all (length ls) w l)
     ]
 
--- a letter, where they are as many as the word of a kind has
+-- a letter, where they are as many as the longest word of a kind has
 pub kind_whole : (ls : List ℕ) (c : ℕ) → length ls ≡ 5 → letter c ≡ true → dead ≡ after_byte (kind_rest ls) c
 kind_whole ls c five h =
-    kind_stops_at ls c (λ b. absurd (omega (arith, front_short ls (codes "de") b)))
+    kind_stops_at ls c (λ z. absurd (omega (arith, five, z))) (λ b. absurd (omega (arith, five, front_short ls (codes "de") b)))
     (λ _ e. both_ways (letter 32) refl (ap letter (ap (λ k. get_or (codes "delay ") k 0) (sym five) ∙ e) ∙ h))
     (λ _ e. both_ways (letter 32) refl (ap letter (ap (λ k. get_or (codes "depth ") k 0) (sym five) ∙ e) ∙ h))
+    (λ b. absurd (omega (arith, five, front_short ls (codes "both") b)))
 
 -- one more is collected
 pub kind_taken : (r : Reader) (c : ℕ) (b : Bool) → r.state ≡ InKind → r.at < 5 → length r.letters ≡ 5 → letter c ≡ true
-    → b ≡ (is_front (take (r.at + 1) (set r.letters r.at c)) (codes "delay") || is_front (take (r.at + 1) (set r.letters r.at c)) (codes "depth"))
+    → b ≡ begins (take (r.at + 1) (set r.letters r.at c))
     → left b (record r { at = r.at + 1; letters = set r.letters r.at c }) ≡ after_byte (to_come r) c
 kind_taken r c b e l five is_letter fits =
-    by_test b (fits ∙ ap (λ ls. is_front ls (codes "delay") || is_front ls (codes "depth")) taken) ∙ sym (ap (λ t. after_byte t c) (in_state r InKind e))
+    by_test b (fits ∙ ap begins taken) ∙ sym (ap (λ t. after_byte t c) (in_state r InKind e))
   where
     next : Reader
     next = record r { at = r.at + 1; letters = set r.letters r.at c }
@@ -228,9 +242,64 @@ kind_taken r c b e l five is_letter fits =
     few : length (take r.at r.letters) < 5
     few = omega (arith, length-take-le r.at r.letters (omega (arith, five)))
 
-    by_test : (t : Bool) → t ≡ (is_front (take r.at r.letters ++ c ∷ []) (codes "delay") || is_front (take r.at r.letters ++ c ∷ []) (codes "depth")) → left t next ≡ after_byte (kind_rest (take r.at r.letters)) c
+    by_test : (t : Bool) → t ≡ begins (take r.at r.letters ++ c ∷ []) → left t next ≡ after_byte (kind_rest (take r.at r.letters)) c
     by_test true h = in_state next InKind e ∙ ap kind_rest taken ∙ kind_goes (take r.at r.letters) c few (sym h)
     by_test false h = kind_refuses (take r.at r.letters) c few is_letter (sym h)
+
+-- The reader in a cost: what follows a delay and what follows a depth is one sign, with or without a second part.
+after_lines_stops : (two : Bool) (a b : ℕ) (z : ℤ) (c : ℕ) → (c ≡ 32 → ⊥) → (c ≡ 41 → ⊥) → after_byte (after_lines two a b z) c ≡ dead
+after_lines_stops true a b z c s t = cond-false (eqb c 32) _ dead (ne_eqb c 32 s)
+after_lines_stops false a b z c s t = cond-false (eqb c 41) _ dead (ne_eqb c 41 t)
+
+after_bits_stops : (two : Bool) (a b : ℕ) (z w : ℤ) (c : ℕ) → (c ≡ 41 → ⊥) → after_byte (after_bits two a b z w) c ≡ dead
+after_bits_stops true a b z w c t = cond-false (eqb c 41) _ dead (ne_eqb c 41 t)
+after_bits_stops false a b z w c t = cond-false (eqb c 41) _ dead (ne_eqb c 41 t)
+
+-- a byte of which no number and no half line is made
+lines_end_stops : (next : ℤ → Rest) (minus : Bool) (n c : ℕ) → (c ≡ 46 → ⊥) → ((z : ℤ) → after_byte (next z) c ≡ dead) → after_byte (lines_end next minus n) c ≡ dead
+lines_end_stops next minus n c p h =
+    cond-false (eqb c 46) _ (after_byte (cond (minus && eqb n 0) dead (next (signed minus (2 * n)))) c) (ne_eqb c 46 p) ∙ by_test (minus && eqb n 0)
+  where
+    by_test : (t : Bool) → after_byte (cond t dead (next (signed minus (2 * n)))) c ≡ dead
+    by_test true = refl
+    by_test false = h (signed minus (2 * n))
+
+no_number : (low : ℕ) (next : ℕ → Rest) (c : ℕ) → digit c ≡ false → after_byte (number low next) c ≡ dead
+no_number low next c d = ap (λ t. cond (t && leb low (c - 48)) (digits (c - 48) next) dead) d
+
+no_digits : (n : ℕ) (next : ℕ → Rest) (c : ℕ) → digit c ≡ false → after_byte (next n) c ≡ dead → after_byte (digits n next) c ≡ dead
+no_digits n next c d h = cond-false (digit c) _ (after_byte (next n) c) d ∙ h
+
+lines_reading_stops : (next : ℤ → Rest) (minus : Bool) (value : Option ℕ) (c : ℕ) → digit c ≡ false → (c ≡ 45 → ⊥) → (c ≡ 46 → ⊥) → ((z : ℤ) → after_byte (next z) c ≡ dead) → after_byte (lines_reading next minus value) c ≡ dead
+lines_reading_stops next true (Some n) c d m p h = no_digits n (lines_end next true) c d (lines_end_stops next true n c p h)
+lines_reading_stops next true None c d m p h = no_number 0 (lines_end next true) c d
+lines_reading_stops next false (Some n) c d m p h = no_digits n (lines_end next false) c d (lines_end_stops next false n c p h)
+lines_reading_stops next false None c d m p h = cond-false (eqb c 45) _ (after_byte (number 0 (lines_end next false)) c) (ne_eqb c 45 m) ∙ no_number 0 (lines_end next false) c d
+
+bits_reading_stops : (next : ℤ → Rest) (minus : Bool) (value : Option ℕ) (c : ℕ) → digit c ≡ false → (c ≡ 45 → ⊥) → ((z : ℤ) → after_byte (next z) c ≡ dead) → after_byte (bits_reading next minus value) c ≡ dead
+bits_reading_stops next true (Some n) c d m h = no_digits n (bits_end next true) c d (h (signed true n))
+bits_reading_stops next true None c d m h = no_number 1 (bits_end next true) c d
+bits_reading_stops next false (Some n) c d m h = no_digits n (bits_end next false) c d (h (signed false n))
+bits_reading_stops next false None c d m h = cond-false (eqb c 45) _ (after_byte (number 0 (bits_end next false)) c) (ne_eqb c 45 m) ∙ no_number 0 (bits_end next false) c d
+
+no_digit : (c : ℕ) → (sort_of c ≡ Digit → ⊥) → digit c ≡ false
+no_digit c n = grind (arith, nat_tests)
+
+no_minus : (c : ℕ) → (sort_of c ≡ Minus → ⊥) → c ≡ 45 → ⊥
+no_minus c n e = grind (arith, nat_tests)
+
+no_point : (c : ℕ) → (sort_of c ≡ Point → ⊥) → c ≡ 46 → ⊥
+no_point c n e = grind (arith, nat_tests)
+
+pub lines_stop : (r : Reader) (c : ℕ) → r.state ≡ Lines → (sort_of c ≡ Close → ⊥) → (sort_of c ≡ Space → ⊥) → (sort_of c ≡ Minus → ⊥) → (sort_of c ≡ Point → ⊥) → (sort_of c ≡ Digit → ⊥) → dead ≡ after_byte (to_come r) c
+lines_stop r c e t s m p d = sym (ap (λ x. after_byte x c) (in_state r Lines e)
+    ∙ lines_reading_stops (after_lines (of_two r.stage) r.first r.second) r.numeral.minus r.numeral.value c (no_digit c d) (no_minus c m) (no_point c p)
+    (λ z. after_lines_stops (of_two r.stage) r.first r.second z c (no_space c s) (no_close c t)))
+
+pub bits_stop : (r : Reader) (c : ℕ) → r.state ≡ Bits → (sort_of c ≡ Close → ⊥) → (sort_of c ≡ Minus → ⊥) → (sort_of c ≡ Digit → ⊥) → dead ≡ after_byte (to_come r) c
+bits_stop r c e t m d = sym (ap (λ x. after_byte x c) (in_state r Bits e)
+    ∙ bits_reading_stops (after_bits (of_two r.stage) r.first r.second r.half_lines) r.numeral.minus r.numeral.value c (no_digit c d) (no_minus c m)
+    (λ w. after_bits_stops (of_two r.stage) r.first r.second r.half_lines w c (no_close c t)))
 
 -- The reader in a code.
 pub code_over : (r : Reader) → r.state ≡ InCode → length r.code ≡ 4 → 4 ≤ r.at → closing (line.Format r.first r.code) ≡ to_come r

@@ -6,8 +6,9 @@ use Rattle.std.specs.List.{AllByRecursion}
 use Rattle.lines.specs.Signs.{digit, letter, line_end}
 use Rattle.lines.specs.declared.line.Amount.{Amount}
 use Rattle.lines.specs.declared.line.Amount.TheVariants.{HalfLines, Bits}
+use Rattle.lines.specs.declared.line.Amount.TheVariants as amount
 use Rattle.lines.specs.declared.line.Kind.{Kind}
-use Rattle.lines.specs.declared.line.Kind.TheVariants.{Delay, Depth}
+use Rattle.lines.specs.declared.line.Kind.TheVariants.{Delay, Depth, Both}
 use Rattle.lines.specs.declared.line.Line.{Line}
 use Rattle.lines.specs.declared.line.Line.TheVariants.{Bay, Format, Card, Leg, End}
 use Rattle.lines.specs.declared.line.Stage.{Stage}
@@ -18,6 +19,7 @@ use Rattle.lines.specs.declared.line.Unfit.{Unfit}
 abbrev pub kind_text : Kind → List ℕ
 kind_text Delay = codes "delay"
 kind_text Depth = codes "depth"
+kind_text Both = codes "both"
 
 -- The text of a delay, in tickets and in answers: sign, whole lines, and `.5` where the number of half lines is odd.
 abbrev pub lines_text : ℕ → List ℕ
@@ -27,10 +29,15 @@ abbrev pub delay_text : ℤ → List ℕ
 delay_text (pos h) = lines_text h
 delay_text (negsuc h) = codes "-" ++ lines_text (suc h)
 
+-- the text of a delay and a depth
+abbrev pub both_text : ℤ → ℤ → List ℕ
+both_text z w = codes "(" ++ (delay_text z ++ (codes " " ++ (signed_decimal w ++ codes ")")))
+
 -- the text of a cost
 abbrev pub amount_text : Amount → List ℕ
 amount_text (HalfLines z) = delay_text z
 amount_text (Bits z) = signed_decimal z
+amount_text (amount.Both z w) = both_text z w
 
 -- What a line looks like. Numbers are written in digits with no zero in front.
 abbrev pub line_text : Line → List ℕ
@@ -44,12 +51,17 @@ line_text End = codes "(end)" ++ (line_end ∷ [])
 abbrev pub too_large : ℕ
 too_large = 10_000_000
 
--- a cost as a bay of the kind has it: a delay with so many whole lines, a depth with so many bits
+-- a cost as a bay of the kind has it: a delay with so many whole lines, a depth with so many bits, or one of each
 abbrev pub AmountOf : Kind → Amount → Type 0
 AmountOf Delay (HalfLines z) = unsigned_abs z / 2 < too_large
 AmountOf Delay (Bits z) = ⊥
+AmountOf Delay (amount.Both z w) = ⊥
 AmountOf Depth (HalfLines z) = ⊥
 AmountOf Depth (Bits z) = unsigned_abs z < too_large
+AmountOf Depth (amount.Both z w) = ⊥
+AmountOf Both (HalfLines z) = ⊥
+AmountOf Both (Bits z) = ⊥
+AmountOf Both (amount.Both z w) = (unsigned_abs z / 2 < too_large) × (unsigned_abs w < too_large)
 
 -- four letters or digits
 abbrev pub Code : List ℕ → Type 0
@@ -97,9 +109,13 @@ pub record Unfinished (stage : Stage) (bytes : List ℕ) : Type 0 where
 abbrev pub part : List ℕ → ℕ → ℕ → List ℕ
 part text from to = take (to - from) (drop from text)
 
+-- how far into a bay line of the kind its number of formats stands
+abbrev pub size_begins : Kind → ℕ
+size_begins kind = 6 + length (kind_text kind)
+
 -- where the first number of a line begins, and its code; the end, where it has none
 abbrev pub number_begins : ℕ → Line → ℕ
-number_begins from (Bay kind n) = from + 11
+number_begins from (Bay kind n) = from + size_begins kind
 number_begins from (Format k code) = from + 8
 number_begins from (Card a b cost) = from + 7
 number_begins from (Leg a b) = from + 6

@@ -4,8 +4,9 @@ use Rattle.std.specs.Prelude.{ℕ, zero, suc, ◌+◌, ◌-◌, ◌*◌, Bool, t
 use Rattle.lines.specs.Signs.{digit, letter, line_end}
 use Rattle.lines.specs.declared.line.Amount.{Amount}
 use Rattle.lines.specs.declared.line.Amount.TheVariants.{HalfLines, Bits}
+use Rattle.lines.specs.declared.line.Amount.TheVariants as amount
 use Rattle.lines.specs.declared.line.Kind.{Kind}
-use Rattle.lines.specs.declared.line.Kind.TheVariants.{Delay, Depth}
+use Rattle.lines.specs.declared.line.Kind.TheVariants.{Delay, Depth, Both}
 use Rattle.lines.specs.declared.line.Line.{Line}
 use Rattle.lines.specs.declared.line.Line.TheVariants as line
 use Rattle.lines.specs.declared.line.Stage.{Stage}
@@ -14,7 +15,7 @@ use Rattle.lines.specs.declared.words.Word.{Word}
 use Rattle.lines.specs.declared.words.Word.TheVariants as word
 use Rattle.lines.specs.declared.reader.State.{State}
 use Rattle.lines.specs.declared.reader.State.TheVariants as state
-use Rattle.lines.specs.declared.reader.State.TheVariants.{Opening, First, InWord, InKind, Pair, Size, Number, From, To, PairEnd, Lines, Point, Closing, InCode, Ending, Over}
+use Rattle.lines.specs.declared.reader.State.TheVariants.{Opening, First, InWord, InKind, Pair, Size, Number, From, To, PairEnd, Parts, Lines, Point, Half, Closing, InCode, Ending, Over}
 use Rattle.lines.specs.declared.reader.Reader.{Reader}
 
 pub data Rest : Type 0 where
@@ -84,37 +85,61 @@ abbrev pub signed : Bool → ℕ → ℤ
 signed true n = neg_ℤ (pos n)
 signed false n = pos n
 
--- the card lines with so many half lines, and with so many bits
-abbrev pub delay_line : ℕ → ℕ → Bool → ℕ → Line
-delay_line a b minus h = line.Card a b (HalfLines (signed minus h))
+-- what follows n whole lines: half a line more and the rest, or the rest at once, but after a minus and 0 the half line alone
+abbrev pub lines_end : (ℤ → Rest) → Bool → ℕ → Rest
+lines_end next minus n =
+    on 46 (fixed (codes "5") (next (signed minus (2 * n + 1)))) (
+    cond (minus && n == 0) dead (next (signed minus (2 * n))))
 
-abbrev pub depth_line : ℕ → ℕ → Bool → ℕ → Line
-depth_line a b minus n = line.Card a b (Bits (signed minus n))
+-- a delay, and what follows so many half lines
+abbrev pub lines_rest : (ℤ → Rest) → Rest
+lines_rest next = on 45 (number 0 (lines_end next true)) (number 0 (lines_end next false))
 
--- half a line more than n lines
-abbrev pub half_more : ℕ → ℕ → Bool → ℕ → Rest
-half_more a b minus n = fixed (codes ".5") (closing (delay_line a b minus (2 * n + 1)))
+abbrev pub bits_end : (ℤ → Rest) → Bool → ℕ → Rest
+bits_end next minus n = next (signed minus n)
 
--- what follows n whole lines: the end or half a line more, and after a minus and 0 the half line alone
-abbrev pub lines_end : ℕ → ℕ → Bool → ℕ → Rest
-lines_end a b minus n = cond (minus && n == 0) (half_more a b minus n) (on 41 (ending (delay_line a b minus (2 * n))) (half_more a b minus n))
+-- a depth, and what follows so many bits
+abbrev pub bits_rest : (ℤ → Rest) → Rest
+bits_rest next = on 45 (number 1 (bits_end next true)) (number 0 (bits_end next false))
 
-abbrev pub lines_rest : ℕ → ℕ → Rest
-lines_rest a b = on 45 (number 0 (lines_end a b true)) (number 0 (lines_end a b false))
+-- the end of a card line whose cost is a delay, a depth, or one of each
+abbrev pub delay_end : ℕ → ℕ → ℤ → Rest
+delay_end a b z = closing (line.Card a b (HalfLines z))
 
-abbrev pub bits_end : ℕ → ℕ → Bool → ℕ → Rest
-bits_end a b minus n = on 41 (ending (depth_line a b minus n)) dead
+abbrev pub depth_end : ℕ → ℕ → ℤ → Rest
+depth_end a b w = closing (line.Card a b (Bits w))
 
-abbrev pub bits_rest : ℕ → ℕ → Rest
-bits_rest a b = on 45 (number 1 (bits_end a b true)) (number 0 (bits_end a b false))
+abbrev pub both_end : ℕ → ℕ → ℤ → ℤ → Rest
+both_end a b z w = fixed (codes ")") (closing (line.Card a b (amount.Both z w)))
+
+-- the second part of a cost
+abbrev pub second_part : ℕ → ℕ → ℤ → Rest
+second_part a b z = fixed (codes " ") (bits_rest (both_end a b z))
 
 -- the cost of a card line, by the kind of the bay line; no other stage has card lines
 abbrev pub cost_rest : Stage → ℕ → ℕ → Rest
-cost_rest Start a b = bits_rest a b
-cost_rest Formats a b = bits_rest a b
-cost_rest (Cards Delay) a b = lines_rest a b
-cost_rest (Cards Depth) a b = bits_rest a b
-cost_rest Legs a b = bits_rest a b
+cost_rest Start a b = bits_rest (depth_end a b)
+cost_rest Formats a b = bits_rest (depth_end a b)
+cost_rest (Cards Delay) a b = lines_rest (delay_end a b)
+cost_rest (Cards Depth) a b = bits_rest (depth_end a b)
+cost_rest (Cards Both) a b = fixed (codes "(") (lines_rest (second_part a b))
+cost_rest Legs a b = bits_rest (depth_end a b)
+
+-- whether a cost has two parts
+abbrev pub of_two : Stage → Bool
+of_two Start = false
+of_two Formats = false
+of_two (Cards Delay) = false
+of_two (Cards Depth) = false
+of_two (Cards Both) = true
+of_two Legs = false
+
+-- what follows a delay, and what follows a depth, where a cost has two parts and where not
+abbrev pub after_lines : Bool → ℕ → ℕ → ℤ → Rest
+after_lines two a b z = cond two (second_part a b z) (delay_end a b z)
+
+abbrev pub after_bits : Bool → ℕ → ℕ → ℤ → ℤ → Rest
+after_bits two a b z w = cond two (both_end a b z w) (depth_end a b w)
 
 -- what follows a pair: the end after the word of a leg, and else a cost
 abbrev pub pair_end : Stage → Word → ℕ → ℕ → Rest
@@ -130,10 +155,14 @@ to_rest stage w a = number 0 (until 41 (λ b. pair_end stage w a b))
 abbrev pub from_rest : Stage → Word → Rest
 from_rest stage w = number 0 (until 32 (λ a. to_rest stage w a))
 
-abbrev pub kind_choice : Rest
-kind_choice =
+-- what may come of a kind, and of one after the first two letters that delay and depth have in common
+abbrev pub de_choice : Rest
+de_choice =
     on 108 (fixed (codes "ay ") (size_rest Delay)) (
     on 112 (fixed (codes "th ") (size_rest Depth)) dead)
+
+abbrev pub kind_choice : Rest
+kind_choice = on 98 (fixed (codes "oth ") (size_rest Both)) (fixed (codes "de") de_choice)
 
 -- the second begins with the first
 abbrev pub is_front : List ℕ → List ℕ → Bool
@@ -149,9 +178,11 @@ stuck = on 0 dead dead
 abbrev pub kind_rest : List ℕ → Rest
 kind_rest letters =
     let at = length letters in
-    cond (is_front letters (codes "de")) (fixed (drop at (codes "de")) kind_choice) (
+    cond (at == 0) kind_choice (
+    cond (is_front letters (codes "de")) (fixed (drop at (codes "de")) de_choice) (
     cond (is_front letters (codes "delay")) (fixed (drop at (codes "delay ")) (size_rest Delay)) (
-    cond (is_front letters (codes "depth")) (fixed (drop at (codes "depth ")) (size_rest Depth)) stuck))
+    cond (is_front letters (codes "depth")) (fixed (drop at (codes "depth ")) (size_rest Depth)) (
+    cond (is_front letters (codes "both")) (fixed (drop at (codes "both ")) (size_rest Both)) stuck))))
 
 -- what follows a word
 abbrev pub word_end : Stage → Word → Rest
@@ -187,17 +218,17 @@ abbrev pub reading : Option ℕ → ℕ → (ℕ → Rest) → Rest
 reading (Some n) stop next = digits n (until stop next)
 reading None stop next = number 0 (until stop next)
 
-abbrev pub lines_reading : Bool → Option ℕ → ℕ → ℕ → Rest
-lines_reading true (Some n) a b = digits n (lines_end a b true)
-lines_reading true None a b = number 0 (lines_end a b true)
-lines_reading false (Some n) a b = digits n (lines_end a b false)
-lines_reading false None a b = lines_rest a b
+abbrev pub lines_reading : (ℤ → Rest) → Bool → Option ℕ → Rest
+lines_reading next true (Some n) = digits n (lines_end next true)
+lines_reading next true None = number 0 (lines_end next true)
+lines_reading next false (Some n) = digits n (lines_end next false)
+lines_reading next false None = lines_rest next
 
-abbrev pub bits_reading : Bool → Option ℕ → ℕ → ℕ → Rest
-bits_reading true (Some n) a b = digits n (bits_end a b true)
-bits_reading true None a b = number 1 (bits_end a b true)
-bits_reading false (Some n) a b = digits n (bits_end a b false)
-bits_reading false None a b = bits_rest a b
+abbrev pub bits_reading : (ℤ → Rest) → Bool → Option ℕ → Rest
+bits_reading next true (Some n) = digits n (bits_end next true)
+bits_reading next true None = number 1 (bits_end next true)
+bits_reading next false (Some n) = digits n (bits_end next false)
+bits_reading next false None = bits_rest next
 
 -- what the reader, in its state, still looks for
 abbrev pub rest_at : State → Reader → Rest
@@ -211,10 +242,12 @@ rest_at Number r = reading r.numeral.value 32 (λ k. code_rest k 0 [])
 rest_at From r = reading r.numeral.value 32 (λ a. to_rest r.stage r.word a)
 rest_at To r = reading r.numeral.value 41 (λ b. pair_end r.stage r.word r.first b)
 rest_at PairEnd r = pair_end r.stage r.word r.first r.second
-rest_at Lines r = lines_reading r.numeral.minus r.numeral.value r.first r.second
-rest_at Point r = fixed (codes "5") (closing r.line)
+rest_at Parts r = fixed (codes "(") (lines_rest (after_lines (of_two r.stage) r.first r.second))
+rest_at Lines r = lines_reading (after_lines (of_two r.stage) r.first r.second) r.numeral.minus r.numeral.value
+rest_at Point r = fixed (codes "5") (after_lines (of_two r.stage) r.first r.second r.half_lines)
+rest_at Half r = after_lines (of_two r.stage) r.first r.second r.half_lines
+rest_at state.Bits r = bits_reading (after_bits (of_two r.stage) r.first r.second r.half_lines) r.numeral.minus r.numeral.value
 rest_at Closing r = closing r.line
-rest_at state.Bits r = bits_reading r.numeral.minus r.numeral.value r.first r.second
 rest_at InCode r = code_rest r.first r.at r.code
 rest_at Ending r = ending r.line
 rest_at Over r = over r.line

@@ -9,4 +9,4 @@ mod words;
 
 pub use line::{Amount, Kind, Line, Read, Stage, Unfit};
 pub use reader::read_line;
-pub use words::same_bytes;
+pub use words::{same_bytes, size_begins};

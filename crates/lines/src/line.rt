@@ -5,6 +5,7 @@
 pub enum Kind {
     Delay,
     Depth,
+    Both,
 }
 
 // The number that a card line has for a cost, in the unit of the bay's kind.
@@ -12,6 +13,7 @@ pub enum Kind {
 pub enum Amount {
     HalfLines(i32),
     Bits(i32),
+    Both { half_lines: i32, bits: i32 },
 }
 
 // What a line says.

@@ -1,21 +1,22 @@
 // The line reader: it takes the bytes of a line one by one, and knows at each what may still come.
-ghost use Rattle.std.specs.Prelude.{◌≡◌, ◌+◌, true, false, ◌||◌, length, take, None, if◌then◌else◌};
+ghost use Rattle.std.specs.Prelude.{◌≡◌, ◌==◌, ◌+◌, true, false, ◌||◌, length, take, None, if◌then◌else◌};
 ghost use Rattle.lines.specs.Signs.{digit, letter};
 ghost use Rattle.lines.specs.declared.line.Line.TheVariants.{Card};
-ghost use Rattle.lines.specs.declared.reader.State.TheVariants.{InWord, InKind, PairEnd, InCode, Ending};
+ghost use Rattle.lines.specs.declared.reader.State.TheVariants.{InWord, InKind, PairEnd, Lines, InCode, Ending};
 ghost use Rattle.lines.specs.Grammar.{line_text, FourSigns, number_begins, code_begins, ReadLine, Alone};
 ghost use Rattle.lines.specs.Rests.{line_rest, to_come, left, after_byte, takes_letter, with_letter};
+ghost use Rattle.lines.specs.Rests.{of_two, after_lines, after_bits};
 
 use crate::line::{Amount, Kind, Line, Read, Stage, Unfit};
 use crate::numeral::Numeral;
 use crate::sort::{Sort, sort_of};
-use crate::words::{Word, begins_kind, kind_by, word_by};
+use crate::words::{Word, begins_kind, kind_by, size_begins, word_by};
 
 // The words of the kinds have so many letters.
 const KIND_LETTERS: usize = 5;
 
 // What is being read. In a word or a code, `at` says how far. A delay is read as whole lines, with a point and a 5 after them for half
-// a line, and a depth as bits.
+// a line, and a depth as bits; a cost of two parts has its own opening and closing sign.
 #[derive(Clone, Copy, Debug, PartialEq, Eq)]
 pub enum State {
     Opening,
@@ -28,10 +29,12 @@ pub enum State {
     From,
     To,
     PairEnd,
+    Parts,
     Lines,
     Point,
-    Closing,
+    Half,
     Bits,
+    Closing,
     InCode,
     Ending,
     Over,
@@ -53,6 +56,7 @@ pub struct Reader {
     numeral: Numeral,
     first: u32,
     second: u32,
+    half_lines: i32,
     code: [u8; 4],
     line: Line,
 }
@@ -72,6 +76,7 @@ impl Reader {
             numeral: Numeral::new(),
             first: 0,
             second: 0,
+            half_lines: 0,
             code: [0; 4],
             line: Line::End,
         }
@@ -197,6 +202,7 @@ impl Reader {
                 // The kind is that of the bay line.
                 match self.stage {
                     Stage::Cards(Kind::Delay) => self.begin(State::Lines),
+                    Stage::Cards(Kind::Both) => self.state = State::Parts,
                     _ => self.begin(State::Bits),
                 }
                 true
@@ -213,6 +219,63 @@ impl Reader {
             from: self.first as usize,
             to: self.second as usize,
             cost,
+        }
+    }
+
+    // Whether a cost has two parts.
+    fn of_two(&self) -> bool
+        ensures { result ≡ of_two self.now.stage }
+    {
+        matches!(self.stage, Stage::Cards(Kind::Both))
+    }
+
+    // The sign after a delay: a card is at its end, and a cost of two parts goes on to the second.
+    fn leave_lines(&mut self, sign: u8) -> bool
+        ensures { let delay = after_lines (of_two self.old.stage) self.old.first self.old.second in
+            left result self.new ≡ after_byte (delay self.old.half_lines) sign }
+    {
+        match (self.of_two(), sign) {
+            (true, b' ') => {
+                self.begin(State::Bits);
+                true
+            }
+            (false, b')') => {
+                let half_lines = self.half_lines;
+                self.finish(self.card(Amount::HalfLines(half_lines)));
+                true
+            }
+            _ => false,
+        }
+    }
+
+    // The same where no half line was read: there is no -0.
+    fn whole_lines(&mut self, sign: u8) -> bool
+        requires at { self.old.state ≡ Lines }
+        requires ends { (sign == 32 || sign == 41) ≡ true }
+        ensures { left result self.new ≡ after_byte (to_come self.old) sign }
+    {
+        let Some(lines) = self.numeral.value else {
+            return false;
+        };
+        if self.numeral.minus && lines == 0 {
+            return false;
+        }
+        self.half_lines = self.numeral.signed(2 * lines);
+        self.leave_lines(sign)
+    }
+
+    // The closing sign after a depth: a card is at its end, and a cost of two parts has one more.
+    fn leave_bits(&mut self, bits: i32)
+        ensures { let two = of_two self.old.stage in
+            let depth = after_bits two self.old.first self.old.second self.old.half_lines in
+            to_come self.new ≡ after_byte (depth bits) 41 }
+    {
+        if self.of_two() {
+            let half_lines = self.half_lines;
+            self.line = self.card(Amount::Both { half_lines, bits });
+            self.state = State::Closing;
+        } else {
+            self.finish(self.card(Amount::Bits(bits)));
         }
     }
 
@@ -297,6 +360,10 @@ impl Reader {
                 true
             }
             (State::PairEnd, Sort::Space | Sort::Close) => self.leave_pair(sign),
+            (State::Parts, Sort::Open) => {
+                self.begin(State::Lines);
+                true
+            }
             (State::Lines | State::Bits, Sort::Minus)
                 if self.numeral.value.is_none() && !self.numeral.minus => {
                 self.numeral.minus = true;
@@ -307,30 +374,17 @@ impl Reader {
                 let Some(lines) = self.numeral.value else {
                     return false;
                 };
-                let half_lines = self.numeral.signed(2 * lines + 1);
-                self.line = self.card(Amount::HalfLines(half_lines));
+                self.half_lines = self.numeral.signed(2 * lines + 1);
                 self.state = State::Point;
                 true
             }
             (State::Point, Sort::Digit) if sign == b'5' => {
-                self.state = State::Closing;
+                self.state = State::Half;
                 true
             }
-            (State::Closing, Sort::Close) => {
-                self.state = State::Ending;
-                true
-            }
-            (State::Lines, Sort::Close) => {
-                let Some(lines) = self.numeral.value else {
-                    return false;
-                };
-                if self.numeral.minus && lines == 0 {
-                    return false;
-                }
-                let half_lines = self.numeral.signed(2 * lines);
-                self.finish(self.card(Amount::HalfLines(half_lines)));
-                true
-            }
+            (State::Half, Sort::Space | Sort::Close) => self.leave_lines(sign),
+            (State::Lines, Sort::Space) => self.whole_lines(b' '),
+            (State::Lines, Sort::Close) => self.whole_lines(b')'),
             (State::Bits, Sort::Digit)
                 if self.numeral.value.is_some() || !self.numeral.minus || sign != b'0' => {
                 self.numeral.digit(sign)
@@ -340,7 +394,11 @@ impl Reader {
                     return false;
                 };
                 let bits = self.numeral.signed(bits);
-                self.finish(self.card(Amount::Bits(bits)));
+                self.leave_bits(bits);
+                true
+            }
+            (State::Closing, Sort::Close) => {
+                self.state = State::Ending;
                 true
             }
             (State::InCode, Sort::Letter | Sort::Digit) => self.code_sign(sign),
@@ -370,7 +428,7 @@ fn placed(line: Line, from: usize, end: usize) -> Read
     ensures code { result.code_place ≡ code_begins from line }
 {
     let (number_place, code_place) = match line {
-        Line::Bay { .. } => (from + 11, end),
+        Line::Bay { kind, .. } => (from + size_begins(kind), end),
         Line::Format { .. } => (from + 8, end - 6),
         Line::Card { .. } => (from + 7, end),
         Line::Leg { .. } => (from + 6, end),

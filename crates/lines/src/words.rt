@@ -1,7 +1,7 @@
 // The words of a ticket, letter by letter, and texts compared byte by byte.
 ghost use Rattle.std.specs.Prelude.{◌≡◌, ◌||◌, Decides, MatchOption};
 ghost use Rattle.lines.specs.declared.line.Kind.{Kind};
-ghost use Rattle.lines.specs.Grammar.{kind_text};
+ghost use Rattle.lines.specs.Grammar.{kind_text, size_begins};
 ghost use Rattle.lines.specs.Rests.{is_front, letters_of, word_by};
 
 use crate::line::{Kind, Stage};
@@ -63,16 +63,27 @@ fn kind_letters(kind: Kind) -> &'static [u8]
     match kind {
         Kind::Delay => b"delay",
         Kind::Depth => b"depth",
+        Kind::Both => b"both",
     }
+}
+
+// How far into a bay line of the kind its number of formats stands: after an opening sign, a word and two spaces.
+pub fn size_begins(kind: Kind) -> usize
+    ensures { result ≡ size_begins kind }
+{
+    6 + kind_letters(kind).len()
 }
 
 // Whether the word of some kind begins with these letters.
 pub fn begins_kind(letters: &[u8]) -> bool
     ensures { let delay = kind_text Kind.Delay in
         let depth = kind_text Kind.Depth in
-        result ≡ (is_front letters.now delay || is_front letters.now depth) }
+        let both = kind_text Kind.Both in
+        result ≡ (is_front letters.now delay || is_front letters.now depth || is_front letters.now both) }
 {
-    is_front(letters, kind_letters(Kind::Delay)) || is_front(letters, kind_letters(Kind::Depth))
+    is_front(letters, kind_letters(Kind::Delay))
+        || is_front(letters, kind_letters(Kind::Depth))
+        || is_front(letters, kind_letters(Kind::Both))
 }
 
 // The kind whose word this is.
@@ -84,6 +95,8 @@ pub fn kind_by(word: &[u8]) -> Option<Kind>
         Some(Kind::Delay)
     } else if same_bytes(word, kind_letters(Kind::Depth)) {
         Some(Kind::Depth)
+    } else if same_bytes(word, kind_letters(Kind::Both)) {
+        Some(Kind::Both)
     } else {
         None
     }

@@ -1,7 +1,7 @@
 -- A ticket's text in, and the text of its answer out.
 use Rattle.std.specs.Prelude.{◌≡◌, ℕ, ◌*◌, ◌≤◌, ◌⊎◌, List, length, Ok, Err, Result}
 use Rattle.costs.specs.declared.Cost.{Ghosts as CostKind}
-use Rattle.costs.specs.Kinds.{delays, depths}
+use Rattle.costs.specs.Kinds.{delays, depths, boths}
 use Rattle.registers.specs.Meaning.{most_formats}
 use Rattle.bay.specs.Limits.{most_legs}
 use Rattle.bay.specs.Sheet.{row_bytes}
@@ -10,7 +10,7 @@ use Rattle.lines.specs.declared.line.Kind.TheVariants as kind
 use Rattle.ticket.specs.Answers.{Contents, HasBay, KindAnswer, BayAnswer}
 use Rattle.ticket.specs.Faults.{ticket_code}
 use Rattle.ticket.specs.Kinds.{read_as}
-use Rattle.ticket.specs.Texts.{CostTexts, delay_texts, depth_texts}
+use Rattle.ticket.specs.Texts.{CostTexts, delay_texts, depth_texts, both_texts}
 use Rattle.ticket.specs.Said.{ticket_entries}
 use Rattle.ticket.specs.declared.fault.Refusal.{Refusal}
 use Rattle.ticket.specs.declared.serve.BayLine.{BayLine}
@@ -52,6 +52,7 @@ pub record ListedOf {C : Type 0} (K : CostKind C) (T : CostTexts C) (text : List
 abbrev pub ListedAs : Kind → List ℕ → BayLine → List ℕ → List ℕ → Result ℕ PlaceShort → Type 0
 ListedAs kind.Delay = ListedOf delays delay_texts
 ListedAs kind.Depth = ListedOf depths depth_texts
+ListedAs kind.Both = ListedOf boths both_texts
 
 -- A ticket is refused at its first line, or answered as its kind is.
 abbrev pub Listed : List ℕ → List ℕ → List ℕ → Result ℕ PlaceShort → Type 0

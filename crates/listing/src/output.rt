@@ -2,7 +2,7 @@
 // `fmt::Write`: a code is four bytes that need not be text, and each write would have an error that cannot come.
 ghost use Rattle.std.specs.Prelude.{◌≡◌, [], decimal};
 ghost use Rattle.std.specs.Fmt.{signed_decimal};
-ghost use Rattle.lines.specs.Grammar.{amount_text, delay_text, lines_text};
+ghost use Rattle.lines.specs.Grammar.{amount_text, both_text, delay_text, lines_text};
 ghost use Rattle.listing.specs.Output.{Holds, Writes};
 
 use lines::Amount;
@@ -83,6 +83,17 @@ impl<'a> Output<'a> {
         self.put_lines(half_lines.unsigned_abs() as usize);
     }
 
+    // A delay and a depth, in brackets of their own.
+    fn put_both(&mut self, half_lines: i32, bits: i32)
+        ensures { Writes self.old self.new (both_text half_lines bits) }
+    {
+        self.put(b"(");
+        self.put_delay(half_lines);
+        self.put(b" ");
+        self.put_signed(bits);
+        self.put(b")");
+    }
+
     // A cost, as its kind is written.
     pub fn put_amount(&mut self, amount: Amount)
         ensures { Writes self.old self.new (amount_text amount) }
@@ -90,6 +101,7 @@ impl<'a> Output<'a> {
         match amount {
             Amount::HalfLines(half_lines) => self.put_delay(half_lines),
             Amount::Bits(bits) => self.put_signed(bits),
+            Amount::Both { half_lines, bits } => self.put_both(half_lines, bits),
         }
     }
 }

@@ -16,6 +16,7 @@ use Rattle.ticket.specs.Kinds.{ReadAs}
 use Rattle.ticket.specs.Answers.{Contents, LinesAnswer}
 use Rattle.ticket.specs.Faults.{Told}
 use Rattle.bay.specs.Buffers.{in_front}
+use Rattle.lines.specs.declared.line.Kind.{Kind as KindName}
 use Rattle.ticket.specs.Said.{Said, adds, bay_causes, ticket_entries, Through, Stops, Completes}
 use Rattle.ticket.specs.declared.fault.Refusal.{Refusal}
 use Rattle.ticket.proofs.Taking.{none_holds}
@@ -52,9 +53,9 @@ module _ {C : Type 0} (K : Kind C) (R : ReadAs C) (text : List ℕ) where
     }
 
 -- a bay line that passes: the size is one that a register has, and there are entries enough
-pub bay_fits : (n entries : ℕ) → first_cause (bay_causes n entries) ≡ None → (size_fits n ≡ true) × (ticket_entries ≤ entries)
-bay_fits n entries e =
-    let none = none_holds (bay_causes n entries) e in
+pub bay_fits : (kind : KindName) (n entries : ℕ) → first_cause (bay_causes kind n entries) ≡ None → (size_fits n ≡ true) × (ticket_entries ≤ entries)
+bay_fits kind n entries e =
+    let none = none_holds (bay_causes kind n entries) e in
     (not-false (size_fits n) none.0, ltb-false entries ticket_entries none.1.0)
 
 pub size_few : (n : ℕ) → size_fits n ≡ true → (least_formats ≤ n) × (n ≤ most_formats)

@@ -108,13 +108,13 @@ module _ {C : Type 0} (K : Kind C) (R : ReadAs C) (text : List ℕ) (from : ℕ)
   -- the bay line is refused
   pub record BayRefused (n : ℕ) : Type 0 where
     pub refusal : Refusal
-    pub cause : first_cause (bay_causes n (length m.entries)) ≡ Some (told_by refusal)
+    pub cause : first_cause (bay_causes R.kind n (length m.entries)) ≡ Some (told_by refusal)
     pub answers : answer ≡ Err refusal
     pub untouched : m' ≡ m
 
   -- the bay line passes
   pub record BayPasses (n : ℕ) : Type 0 where
-    pub no_cause : first_cause (bay_causes n (length m.entries)) ≡ None
+    pub no_cause : first_cause (bay_causes R.kind n (length m.entries)) ≡ None
     pub lines : LinesAnswer (begins n)
 
   -- what a ticket is answered, after its bay line for n formats; entries that it does not use are as they were

@@ -11,6 +11,7 @@ use Rattle.lent.specs.Lent.{size_fits, begun}
 use Rattle.bay.specs.Plain.{Plain, book_causes, step}
 use Rattle.bay.specs.declared.calls.Call.TheVariants.{Enter, Book}
 use Rattle.lines.specs.Grammar.{line_text, number_begins, code_begins, IsRead, IsRefused}
+use Rattle.lines.specs.declared.line.Kind.{Kind as KindName}
 use Rattle.lines.specs.declared.line.Line.{Line}
 use Rattle.lines.specs.declared.line.Line.TheVariants.{Bay, Format, Card, Leg, End}
 use Rattle.lines.specs.declared.line.Read.{Read}
@@ -40,9 +41,9 @@ abbrev pub used : List (List ℕ) → List ℕ → Bool
 used [] code = false
 used (c ∷ cs) code = same_code c code || used cs code
 
--- why a bay line for n formats is refused, in order: a size that no register has, and too few entries
-abbrev pub bay_causes : ℕ → ℕ → List (Bool × Told)
-bay_causes n entries = (not (size_fits n), told 11 (code Ticket 3 0)) ∷ (nat_lt entries ticket_entries, told 0 (code Register 16 1)) ∷ []
+-- why a bay line of a kind for n formats is refused, in order: a size that no register has, and too few entries
+abbrev pub bay_causes : KindName → ℕ → ℕ → List (Bool × Told)
+bay_causes kind n entries = (not (size_fits n), told (number_begins 0 (Bay kind n)) (code Ticket 3 0)) ∷ (nat_lt entries ticket_entries, told 0 (code Register 16 1)) ∷ []
 
 -- why a format line at `from` is refused, in order: it has not the number due, and its code was used
 abbrev pub format_causes : List (List ℕ) → ℕ → ℕ → List ℕ → List (Bool × Told)

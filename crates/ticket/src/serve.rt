@@ -15,7 +15,7 @@ use crate::orders::read_orders;
 use bay::{Bay, BayFault, Cell, Ends, MOST_LEGS};
 use costs::Cost;
 use lent::{Entry, List};
-use lines::{Kind, Line, Stage, read_line};
+use lines::{Kind, Line, Stage, read_line, size_begins};
 use registers::{LEAST_FORMATS, MOST_FORMATS, Register, RegisterFault};
 
 // The cards of a ticket lie in so many entries.
@@ -23,9 +23,6 @@ pub const TICKET_ENTRIES: usize = 512;
 
 // A ticket has at most so many bytes.
 pub const MOST_BYTES: usize = 32_768;
-
-// Where the number of formats stands in a ticket.
-const SIZE_PLACE: usize = 11;
 
 // The first line of a ticket: its kind, its number of formats, and where the lines after it begin.
 #[derive(Clone, Copy, Debug, PartialEq, Eq)]
@@ -85,12 +82,12 @@ pub fn read_bay(text: &[u8]) -> Result<BayLine, Refusal>
     })
 }
 
-// That a bay of `n` formats can be made with so many entries, or the first cause why not.
-fn judge_bay(n: usize, entries: usize) -> Result<(), Refusal>
-    ensures { told_of result ≡ first_cause (bay_causes n entries) }
+// That the bay of a bay line can be made with so many entries, or the first cause why not.
+fn judge_bay(bay: BayLine, entries: usize) -> Result<(), Refusal>
+    ensures { told_of result ≡ first_cause (bay_causes bay.kind bay.size entries) }
 {
-    if !(LEAST_FORMATS..=MOST_FORMATS).contains(&n) {
-        return Err(TicketFault::OutOfField.at(SIZE_PLACE));
+    if !(LEAST_FORMATS..=MOST_FORMATS).contains(&bay.size) {
+        return Err(TicketFault::OutOfField.at(size_begins(bay.kind)));
     }
     if entries < TICKET_ENTRIES {
         let fault = BayFault::from(RegisterFault::MemoryUnfit);
@@ -139,7 +136,7 @@ pub fn route_ticket<C: TicketCost>(
         (contents memory.old) (contents memory.new) result bay.size }
     ensures same { SameMemory memory.old memory.new }
 {
-    judge_bay(bay.size, memory.entries.len())?;
+    judge_bay(bay, memory.entries.len())?;
     let entries = &mut *memory.entries;
     let mut made = Bay::new(List::new(bay.size, &mut entries[0..TICKET_ENTRIES]));
     route_lines(

@@ -383,5 +383,5 @@ module _ {C : Type 0} (K : Kind C) (cost_of : Amount → C) (text : List ℕ) wh
     pub granted_kind : KindAnswer K (read_as bay.kind cost_of) text bay.end m m' (Ok count) bay.size → Whole K cost_of text bay.kind bay.size count m'.buffers.costs m'.buffers.chains
     granted_kind t = elim t.answered [
       | inl r ↦ absurd (let e = r.answers in let z : ◌≡◌ {A = ℕ} 0 1 = cc in omega arith)
-      | inr r ↦ granted_lines (bay_fits bay.size (length m.entries) r.no_cause).0 r.lines
+      | inr r ↦ granted_lines (bay_fits bay.kind bay.size (length m.entries) r.no_cause).0 r.lines
     ]

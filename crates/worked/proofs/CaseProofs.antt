@@ -9,6 +9,8 @@ use Rattle.costs.specs.Algebra.{Algebra}
 use Rattle.costs.specs.Kinds.{delays}
 use Rattle.costs.specs.Delay.{delay}
 use Rattle.costs.specs.Depth.{depth, Bits, bits, deepest}
+use Rattle.costs.specs.Pair.{pair as costs_pair}
+use Rattle.std.specs.Option.{option_map}
 use Rattle.registers.specs.Meaning.{Meaning, pair, standing, meant}
 use Rattle.registers.specs.House.{house}
 use Rattle.registers.specs.Bar.{barred}
@@ -18,7 +20,7 @@ use Rattle.walks.specs.Walk.{path, FromTo, Walk, cost, WalkCosts, Least, Gains}
 use Rattle.walks.proofs.Backwards.{gains_back, least_back}
 use Rattle.walks.proofs.Cut.{unit_is_least}
 use Rattle.walks.proofs.Runs.{one_or_path, path_from, path_of}
-use Rattle.worked.specs.Walks.{cards_of, WorkedCases, even_ring, free_pair, open_house, barred_house, reversed_house, deeper_way}
+use Rattle.worked.specs.Walks.{cards_of, WorkedCases, even_ring, free_pair, open_house, barred_house, reversed_house, deeper_way, equal_delays, sooner_way, free_deep_pair}
 
 -- a test of a card that stands
 abbrev pub passes : {V : Type 0} → (V → Bool) → Option V → Bool
@@ -159,6 +161,42 @@ module _ (card : ℕ → ℕ → Option Bits) (t n : ℕ) (few : Pass card (λ a
   least_by_last : (s : ℕ) (x : Bits) → (s ≡ t → ⊥) → WalkCosts depth card s t x → x.count ≡ n → Least depth card s t (Some x)
   least_by_last s x ne w e = (w, λ y q u. omega (arith, costs_keep s y ne q))
 
+-- The delays of cards that have a depth too.
+abbrev pub firsts : (ℕ → ℕ → Option (ℤ × Bits)) → ℕ → ℕ → Option ℤ
+firsts card a b = option_map (λ x. x.0) (card a b)
+
+first_is : (o : Option (ℤ × Bits)) → (unwrap_or o (pos 0, bits deepest)).0 ≡ unwrap_or (option_map (λ x. x.0) o) (pos 0)
+first_is None = refl
+first_is (Some x) = refl
+
+first_stands : (o : Option (ℤ × Bits)) → is_some o ≡ true → is_some (option_map (λ x. x.0) o) ≡ true
+first_stands None h = h
+first_stands (Some x) h = refl
+
+first_passes : (f : ℤ → Bool) (o : Option (ℤ × Bits)) → passes (λ x. f x.0) o ≡ true → passes f (option_map (λ x. x.0) o) ≡ true
+first_passes f None h = h
+first_passes f (Some x) h = h
+
+module _ (card : ℕ → ℕ → Option (ℤ × Bits)) where
+  walk_firsts : (fs : List ℕ) → Walk (costs_pair delay depth) card fs → Walk delay (firsts card) fs
+  walk_firsts [] w = w
+  walk_firsts (a ∷ []) w = w
+  walk_firsts (a ∷ b ∷ fs) w = (first_stands (card a b) w.0, walk_firsts (b ∷ fs) w.1)
+
+  cost_firsts : (fs : List ℕ) → (cost (costs_pair delay depth) card fs).0 ≡ cost delay (firsts card) fs
+  cost_firsts [] = refl
+  cost_firsts (a ∷ []) = refl
+  cost_firsts (a ∷ b ∷ fs) = λ i. first_is (card a b) i +ℤ cost_firsts (b ∷ fs) i
+
+  -- where no delay gains, no cost does: no depth undercuts the unit
+  pub pair_even : (Gains delay (firsts card) → ⊥) → Gains (costs_pair delay depth) card → ⊥
+  pair_even even g =
+      let fs : List ℕ = path g.0 g.1 g.0 in
+      elim g.3 [
+        | inl u ↦ even (g.0, g.1, walk_firsts fs g.2, subst (λ z. z <ℤ pos 0) (cost_firsts fs) u)
+        | inr v ↦ omega (arith, v.1, (cost (costs_pair delay depth) card fs).1.bound)
+      ]
+
 -- heights for each set of cards with no gain; those of the house are the least costs from 4
 abbrev ring_heights : ℕ → ℤ
 ring_heights = heights (pos 0 ∷ pos 2 ∷ negsuc 1 ∷ [])
@@ -183,6 +221,20 @@ house_rises = table_passes (rising house_heights) (meant delays house) refl
 
 barred_rises : Pass barred_house (rising house_heights)
 barred_rises = table_passes (rising house_heights) (meant delays (barred 1 house)) refl
+
+-- delays and depths, by heights of the delays
+pair_of_list_even : (height : ℕ → ℤ) (ls : List (ℕ × ℕ × (ℤ × Bits))) → every_card (λ a b c. rising height a b c.0) ls ≡ true → Gains (costs_pair delay depth) (cards_of ls) → ⊥
+pair_of_list_even height ls t =
+    pair_even (cards_of ls) (no_gain (firsts (cards_of ls)) height (λ a b. first_passes (rising height a b) (cards_of ls a b) (list_passes (λ x y c. rising height x y c.0) ls t a b)))
+
+pub equal_is_even : Gains (costs_pair delay depth) (cards_of equal_delays) → ⊥
+equal_is_even = pair_of_list_even (heights (pos 0 ∷ pos 2 ∷ pos 4 ∷ pos 4 ∷ [])) equal_delays refl
+
+pub sooner_is_even : Gains (costs_pair delay depth) (cards_of sooner_way) → ⊥
+sooner_is_even = pair_of_list_even (heights (pos 0 ∷ pos 2 ∷ pos 4 ∷ pos 4 ∷ [])) sooner_way refl
+
+pub free_deep_is_even : Gains (costs_pair delay depth) (cards_of free_deep_pair) → ⊥
+free_deep_is_even = pair_of_list_even (heights (pos 0 ∷ pos 0 ∷ pos 5 ∷ [])) free_deep_pair refl
 
 pub barred_is_even : Gains delay barred_house → ⊥
 barred_is_even = no_gain barred_house house_heights barred_rises

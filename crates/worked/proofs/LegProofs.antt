@@ -1,18 +1,21 @@
 -- What every route over some cards tells of a leg. A test of every chain from_to its ends shows it: the chain is one that the case has,
 -- or the case's cost undercuts it, and then it is not the chain that the route wrote, since a walk is known to have that cost.
-use Rattle.std.proofs.Common.{◌≡◌, ℕ, ◌<◌, Bool, true, false, cond, ◌||◌, T, ltb, ◌⊎◌, List, [], ◌∷◌, ◌++◌, map, length, get_or, slice_get, pos, is_some, Some, None, Option, Ok, Err, sym, refl, ap, ◌∙◌, subst, subst₂, inl, inr, arith}
+use Rattle.std.proofs.Common.{◌≡◌, ℕ, ◌<◌, Bool, true, false, cond, not, ◌&&◌, ◌||◌, T, ltb, ℤ, ◌<ℤ◌, ◌⊎◌, List, [], ◌∷◌, ◌++◌, map, length, get_or, slice_get, pos, is_some, Some, None, Option, Ok, Err, sym, refl, ap, ◌∙◌, subst, subst₂, inl, inr, arith}
 use lib.Signed.{lt_z}
 use Rattle.std.specs.List.{All, Contains, list_any, AllByRecursion}
 use Rattle.std.specs.Str.{bytes_eq}
 use Rattle.std.specs.Cmp.Lexicographic.{same_text}
-use Rattle.std.proofs.lemmas.Bool.{false≢true, or_cases, ltb-true}
+use Rattle.std.proofs.lemmas.Bool.{false≢true, and_parts, not-true, or_cases, ltb-true}
 use Rattle.std.proofs.lemmas.List.{length-map, get_or-map}
 use Rattle.std.proofs.lemmas.List.Elements.{All-from_recursion, All-contains, All-map}
 use Rattle.std.proofs.lemmas.Map.Views.{Contains-from_any}
 use Rattle.std.proofs.lemmas.Option.{slice_get_within, get_or_from_slice_get}
 use Rattle.costs.specs.declared.Cost.{Ghosts as Kind}
 use Rattle.costs.specs.Algebra.{Algebra}
-use Rattle.costs.specs.Kinds.{delays, depths}
+use Rattle.costs.specs.Kinds.{delays, depths, boths}
+use Rattle.costs.specs.DelayLaws.{delay_lawful}
+use Rattle.costs.specs.DepthLaws.{same_bits}
+use Rattle.costs.specs.Depth.{Bits}
 use Rattle.registers.specs.Meaning.{Meaning, IsSize, possible, standing}
 use Rattle.walks.specs.Walk.{path, FromTo, Walk, cost, Chain, Gains}
 use Rattle.bay.specs.Plain.{Plain}
@@ -63,6 +66,38 @@ delay_test = record { some = record { half_lines = pos 0 }; under = lt_z; underc
 
 abbrev pub depth_test : Tested depths
 depth_test = record { some = record { bits = 0 }; under = λ x y. ltb y.count x.count; undercuts = λ x y e. ltb-true y.count x.count e }
+
+pub under_both : (x y : ℤ × Bits) → (lt_z x.0 y.0 || (not (lt_z y.0 x.0) && ltb y.1.count x.1.count)) ≡ true → boths.algebra.Under x y
+under_both x y e = elim (delay_lawful.one_of x.0 y.0) [
+  | inl u ↦ inl u
+  | inr r ↦ elim r [
+    | inl same ↦ inr (same, deeper same)
+    | inr over ↦ absurd (not_over over)
+  ]
+]
+  where
+    deeper : x.0 ≡ y.0 → y.1.count < x.1.count
+    deeper same = elim (or_cases _ _ e) [
+      | inl l ↦ absurd (delay_lawful.not_equal x.0 y.0 (record { lt = subst T (sym l) tt }) same)
+      | inr d ↦ ltb-true y.1.count x.1.count (and_parts _ _ d).1
+    ]
+
+    not_over : y.0 <ℤ x.0 → ⊥
+    not_over over = elim (or_cases _ _ e) [
+      | inl l ↦ delay_lawful.not_both x.0 y.0 (record { lt = subst T (sym l) tt }) over
+      | inr d ↦ subst T (not-true (lt_z y.0 x.0) (and_parts _ _ d).0) over.lt
+    ]
+
+abbrev pub both_test : Tested boths
+both_test = record {
+  some = record { first = record { half_lines = pos 0 }; second = record { bits = 0 } };
+  under = λ x y. lt_z x.0 y.0 || (not (lt_z y.0 x.0) && ltb y.1.count x.1.count);
+  undercuts = under_both;
+}
+
+-- two costs of as much delay and as many bits are equal
+pub same_parts : (x y : ℤ × Bits) → x.0 ≡ y.0 → x.1.count ≡ y.1.count → x ≡ y
+same_parts x y e f = λ i. (e i, same_bits x.1 y.1 f i)
 
 walk_leads : (A : Algebra) (card : ℕ → ℕ → Option A.Value) (s : ℕ) (ms : List ℕ) (t : ℕ) → Walk A card (path s ms t) → LeadOn card s (ms ++ t ∷ []) t
 walk_leads A card s [] t w = (w.0, refl)

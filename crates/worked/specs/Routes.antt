@@ -5,13 +5,13 @@ use Rattle.costs.specs.declared.Cost.{Ghosts as Kind}
 use Rattle.costs.specs.Algebra.{Algebra}
 use Rattle.costs.specs.Delay.{delay}
 use Rattle.costs.specs.Depth.{bits}
-use Rattle.costs.specs.Kinds.{delays, depths}
+use Rattle.costs.specs.Kinds.{delays, depths, boths}
 use Rattle.registers.specs.Meaning.{Meaning, IsSize, standing}
 use Rattle.bay.specs.Plain.{Plain, from_to}
 use Rattle.bay.specs.Reversal.{RouteMade, Loops}
 use Rattle.bay.specs.Sheet.{row_at, row_of}
 use Rattle.bay.specs.declared.legs.Ends.{Ends}
-use Rattle.worked.specs.Walks.{cards_of, back, gaining_ring, even_ring, free_pair, gain_elsewhere, open_house, barred_house, reversed_house, deeper_way}
+use Rattle.worked.specs.Walks.{cards_of, back, gaining_ring, even_ring, free_pair, gain_elsewhere, open_house, barred_house, reversed_house, deeper_way, equal_delays, sooner_way, free_deep_pair}
 
 -- a leg, what it costs, and the rows that it may have, each told by its formats
 pub record LegCase (V : Type 0) : Type 0 where
@@ -94,3 +94,15 @@ pub record RouteCases : Type 0 where
   -- of depths the most bits are the best
   pub deeper_way_granted : AlwaysGranted depths (cards_of deeper_way) (
       by_chains 0 2 (bits 8) ((0 ∷ 1 ∷ 2 ∷ []) ∷ []) ∷ [])
+  -- of equal delays the one that keeps more bits; from a format to itself no delay and all the bits
+  pub equal_delays_granted : AlwaysGranted boths (cards_of equal_delays) (
+      by_chains 0 3 (pos 6, bits 10) ((0 ∷ 2 ∷ 3 ∷ []) ∷ []) ∷
+      by_chains 1 1 (pos 0, bits 255) ((1 ∷ []) ∷ []) ∷ [])
+  -- a smaller delay comes before any number of bits
+  pub sooner_way_granted : AlwaysGranted boths (cards_of sooner_way) (
+      by_chains 0 3 (pos 4, bits 1) ((0 ∷ 3 ∷ []) ∷ []) ∷ [])
+  -- Delays tie by a loop of no delay, there and back: the chain from 0 goes by way of 1 for the bits, and goes on as the one from 1 does,
+  -- which does not go back
+  pub free_deep_pair_granted : AlwaysGranted boths (cards_of free_deep_pair) (
+      by_chains 0 2 (pos 5, bits 10) ((0 ∷ 1 ∷ 2 ∷ []) ∷ []) ∷
+      by_chains 1 2 (pos 5, bits 10) ((1 ∷ 2 ∷ []) ∷ []) ∷ [])

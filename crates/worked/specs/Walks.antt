@@ -60,6 +60,18 @@ reversed_house = delays_of (reversed house)
 abbrev pub deeper_way : List (ℕ × ℕ × Bits)
 deeper_way = (0, 1, bits 10) ∷ (1, 2, bits 8) ∷ (0, 2, bits 6) ∷ []
 
+-- delays and depths: two ways of three lines from 0 to 3, one of which keeps 8 bits and the other 10
+abbrev pub equal_delays : List (ℕ × ℕ × (ℤ × Bits))
+equal_delays = (0, 1, (pos 2, bits 8)) ∷ (1, 3, (pos 4, bits 16)) ∷ (0, 2, (pos 4, bits 10)) ∷ (2, 3, (pos 2, bits 12)) ∷ []
+
+-- and a card of two lines that keeps one bit
+abbrev pub sooner_way : List (ℕ × ℕ × (ℤ × Bits))
+sooner_way = (0, 3, (pos 4, bits 1)) ∷ equal_delays
+
+-- there and back at no delay, and on to a third format with equal delays but from 1 with more bits
+abbrev pub free_deep_pair : List (ℕ × ℕ × (ℤ × Bits))
+free_deep_pair = (0, 1, (pos 0, bits 12)) ∷ (1, 0, (pos 0, bits 12)) ∷ (0, 2, (pos 5, bits 8)) ∷ (1, 2, (pos 5, bits 10)) ∷ []
+
 pub record WorkedCases : Type 0 where
   -- 2, −4 and 1 round a ring: a closed walk undercuts the unit
   pub ring_gains : Gains delay (cards_of gaining_ring)

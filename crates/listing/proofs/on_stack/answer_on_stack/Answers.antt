@@ -11,3 +11,8 @@ pub returns-in-Depth : goal.returns-in-Depth
 returns-in-Depth c =
     let listed = subst (λ k. ListedAs k c.args.text.now c.in-Ok.bay c.args.place.now c.answer_depths.new.place c.answer_depths.result) (sym c.in-Depth.is) c.answer_depths.ensures in
     inr (c.in-Ok.bay, c.in-Ok.ensures, listed)
+
+pub returns-in-Both : goal.returns-in-Both
+returns-in-Both c =
+    let listed = subst (λ k. ListedAs k c.args.text.now c.in-Ok.bay c.args.place.now c.answer_boths.new.place c.answer_boths.result) (sym c.in-Both.is) c.answer_boths.ensures in
+    inr (c.in-Ok.bay, c.in-Ok.ensures, listed)

@@ -1,9 +1,9 @@
 -- The letters that are collected have one more.
-use Rattle.std.proofs.Common.{◌≡◌, length, take, ◌||◌, codes, sym, ap, ◌∙◌, arith, rules}
+use Rattle.std.proofs.Common.{◌≡◌, length, take, sym, ap, ◌∙◌, arith, rules}
 use Rattle.std.proofs.lemmas.List.{take_all}
-use Rattle.lines.specs.Rests.{after_byte, is_front}
+use Rattle.lines.specs.Rests.{after_byte}
 use Rattle.lines.specs.declared.reader.State.TheVariants.{InKind}
-use Rattle.lines.proofs.Steps.{kind_taken, kind_whole, in_state}
+use Rattle.lines.proofs.Steps.{begins, kind_taken, kind_whole, in_state}
 use Rattle.lines.proofs.reader.Reader.kind_letter.Goals as goal
 
 pub returns-then-self-ge-KIND_LETTERS : goal.returns-then-self-ge-KIND_LETTERS
@@ -17,4 +17,4 @@ returns c =
     let r = c.args.self.now in
     let five : length r.letters ≡ 5 = search rules in
     kind_taken r c.args.sign c.begins_kind.result c.requires.at c.if-self-ge-KIND_LETTERS.false five c.requires.letter
-    (c.begins_kind.ensures ∙ ap (λ ls. is_front ls (codes "delay") || is_front ls (codes "depth")) c.collected.ensures)
+    (c.begins_kind.ensures ∙ ap begins c.collected.ensures)
