@@ -2,6 +2,8 @@
  * implementation of the same rules that shares no code: rounds of relaxation over all cards. Has a ticket answered too, beside the
  * answer that it must get. Prints how many calls of routes there were.
  *
+ * Checks tables of a customer's as well, and routes over them.
+ *
  * Each export is called, and what it is not to write is compared as well, so that a library in which two slices of an export stand in
  * another order than in the header does not pass: no proof knows the header. */
 #include "hurzelma.h"
@@ -11,7 +13,7 @@
 #include <stdlib.h>
 #include <string.h>
 
-enum { CALLS = 50000, MOST = 66, LEGS = 34, CARDS = MOST * MOST, BYTES = LEGS * HURZELMA_ROW };
+enum { CALLS = 50000, TABLES = 20000, PLACE = 66, MOST = 66, LEGS = 34, CARDS = MOST * MOST, BYTES = LEGS * HURZELMA_ROW };
 
 /* The kinds, and a cost of any of them: of delays all depths are 255, and of depths all delays 0. */
 enum kind { DELAY, DEPTH, BOTH };
@@ -296,9 +298,126 @@ static bool is_answered(size_t room) {
            memcmp(text, ticket, sizeof text) == 0 && memcmp(place, right, sizeof place) == 0;
 }
 
+/* House tables of a customer's. */
+
+static struct cost of_delay(hurzelma_half_lines delay) {
+    return (struct cost){delay, 255};
+}
+
+/* What a table is told, written anew: the numbers, and the room for them. */
+static uint32_t table_fault(const int32_t *numbers, size_t length, size_t room) {
+    static struct job job;
+    if (length != HURZELMA_TABLE || room != HURZELMA_TABLE) return fault(3, 28, HURZELMA_TABLE);
+    for (uint32_t i = 0; i < HURZELMA_TABLE; i++) {
+        bool diagonal = i % (HURZELMA_TABLE_FORMATS + 1) == 0;
+        if (numbers[i] == HURZELMA_NO_DELAY) continue;
+        if (diagonal || numbers[i] < -2000000 || 2000000 < numbers[i]) return fault(3, 28, i);
+    }
+    job.n = HURZELMA_TABLE_FORMATS;
+    for (size_t i = 0; i < HURZELMA_TABLE; i++) job.cards[i] = of_delay(numbers[i]);
+    return gains(&job) ? fault(3, 29, 0) : 0;
+}
+
+/* Whether a table is checked rightly into a place; the place is then what it left. */
+static bool is_checked(const int32_t *numbers, size_t length, int32_t *place, size_t room) {
+    int32_t handed[PLACE], right[PLACE];
+    uint32_t cause = table_fault(numbers, length, room);
+    memcpy(handed, numbers, sizeof handed);
+    memcpy(right, place, sizeof right);
+    if (cause == 0) memcpy(right, numbers, length * sizeof *right);
+    return hurzelma_check_table(numbers, length, place, room) == cause && memcmp(place, right, sizeof right) == 0 &&
+           memcmp(handed, numbers, sizeof handed) == 0;
+}
+
+/* Whether legs are routed rightly over what a place holds, under bars. */
+static bool is_routed(const int32_t *place, size_t length, struct job *job) {
+    static struct left before, after;
+    hurzelma_half_lines costs[LEGS];
+    uint64_t bars = (uint64_t)draw(0, 255) & (uint64_t)draw(0, 255) & (uint64_t)draw(0, 255);
+    if (chance(3)) bars = 0;
+    if (chance(9)) bars |= UINT64_MAX << 8;
+    draw_job(job);
+    job->kind = DELAY;
+    job->n = HURZELMA_TABLE_FORMATS;
+    job->cards_length = HURZELMA_TABLE;
+    for (size_t k = 0; k < job->legs_length; k++) {
+        job->legs[k].from = chance(300) ? SIZE_MAX : (size_t)draw(0, 7);
+        job->legs[k].to = chance(300) ? 8 : (size_t)draw(0, 7);
+    }
+    bool passes = table_fault(place, length, length) == 0;
+    for (size_t i = 0; i < HURZELMA_TABLE; i++) {
+        bool barred = bars >> (i / 8) & 1 || bars >> (i % 8) & 1;
+        job->cards[i] = of_delay(passes && !barred ? place[i] : HURZELMA_NO_DELAY);
+    }
+    memset(&before, 0, sizeof before);
+    for (size_t k = 0; k < LEGS; k++) before.costs[k].delay = costs[k] = (hurzelma_half_lines)draw(0, 255);
+    for (size_t k = 0; k < BYTES; k++) before.chains[k] = (uint8_t)draw(0, 255);
+    memcpy(&after, &before, sizeof after);
+    uint32_t told = hurzelma_route_table(place, length, bars, job->legs, job->legs_length,
+                                         costs, job->costs_length, after.chains, job->chains_length);
+    for (size_t k = 0; k < LEGS; k++) after.costs[k].delay = costs[k];
+    return HURZELMA_NUMBER(told) != 26 && is_right(job, told, &before, &after);
+}
+
+/* A table: often one in which a card costs at least what the heights of its ends fall, so that it does not gain. */
+static void draw_table(int32_t *numbers) {
+    int64_t heights[HURZELMA_TABLE_FORMATS], low = chance(3) ? draw(-2, -1) : 0;
+    int of = (int)draw(1, 6);
+    for (size_t f = 0; f < HURZELMA_TABLE_FORMATS; f++) heights[f] = chance(20) ? draw(-1000000, 1000000) : draw(-9, 9);
+    for (size_t i = 0; i < PLACE; i++) {
+        int64_t falls = i < HURZELMA_TABLE ? heights[i / 8] - heights[i % 8] : 0;
+        numbers[i] = i / 8 == i % 8 || !chance(of) ? HURZELMA_NO_DELAY : (int32_t)(draw(low, 9) - falls);
+    }
+    if (chance(20)) numbers[draw(0, 63)] = (int32_t)draw(0, 1) * 4000002 - 2000001;
+    if (chance(20)) numbers[draw(0, 63)] = (int32_t)draw(0, 1) * 4000000 - 2000000;
+    if (chance(20)) numbers[draw(0, 7) * 9] = (int32_t)draw(-1, 1);
+}
+
+/* Our own table with one number changed, at each index in turn: to one that is too large, too small, the most, the least, none. */
+static bool each_index_is_told(void) {
+    static const int32_t odd[] = {2000001, -2000001, 2000000, -2000000, HURZELMA_NO_DELAY, INT32_MAX, HURZELMA_NO_DELAY + 1};
+    int32_t own[PLACE] = {0}, place[PLACE];
+    if (hurzelma_own_table(own, HURZELMA_TABLE) != 0 || own[HURZELMA_TABLE] != 0) return false;
+    for (size_t room = 63; room <= 65; room += 2) {
+        memset(place, 9, sizeof place);
+        if (hurzelma_own_table(place, room) != fault(3, 28, 64) || place[0] != 0x09090909) return false;
+    }
+    if (table_fault(own, HURZELMA_TABLE, HURZELMA_TABLE) != 0) return false;
+    for (size_t i = 0; i < HURZELMA_TABLE; i++) {
+        for (size_t k = 0; k < sizeof odd / sizeof *odd; k++) {
+            int32_t numbers[PLACE];
+            memcpy(numbers, own, sizeof numbers);
+            numbers[i] = odd[k];
+            memset(place, 9, sizeof place);
+            if (!is_checked(numbers, HURZELMA_TABLE, place, HURZELMA_TABLE)) return false;
+        }
+    }
+    return true;
+}
+
+/* Tables that are drawn, each checked into a place, and legs routed over what the place then holds; answers how many passed, or -1. */
+static int tables_told(struct job *job) {
+    static const size_t odd_lengths[] = {0, 1, 8, 63, 65, 66};
+    int passed = 0;
+    for (unsigned i = 0; i < TABLES; i++) {
+        int32_t numbers[PLACE], place[PLACE];
+        size_t length = chance(30) ? odd_lengths[draw(0, 5)] : HURZELMA_TABLE;
+        size_t room = chance(30) ? odd_lengths[draw(0, 5)] : HURZELMA_TABLE;
+        draw_table(numbers);
+        draw_table(place);
+        passed += table_fault(numbers, length, room) == 0;
+        if (!is_checked(numbers, length, place, room) || !is_routed(place, room, job)) return -1;
+    }
+    return passed;
+}
+
 int main(void) {
     static struct job job;
     unsigned granted = 0, loops = 0;
+    if (!each_index_is_told()) {
+        printf("a table with one number changed is told wrongly\n");
+        return 1;
+    }
     for (size_t room = WANTED - 1; room <= WANTED + 1; room++) {
         if (!is_answered(room)) {
             printf("a ticket is answered wrongly in a place of %zu bytes\n", room);
@@ -319,5 +438,11 @@ int main(void) {
         loops += HURZELMA_NUMBER(told) == 26;
     }
     printf("%d calls told rightly: %u granted, %u loops\n", CALLS, granted, loops);
+    int passed = tables_told(&job);
+    if (passed < 0) {
+        printf("a table or a route over one is told wrongly\n");
+        return 1;
+    }
+    printf("%d tables told rightly: %d passed\n", TABLES, passed);
     return 0;
 }

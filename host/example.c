@@ -1,4 +1,5 @@
-/* A host in C: it asks for four routes by numbers and for the answers to three tickets, and prints what it is told. */
+/* A host in C: it asks for four routes by numbers, for two over a table of its own, and for the answers to three tickets, and prints
+ * what it is told. */
 #include "hurzelma.h"
 
 #include <stdio.h>
@@ -18,6 +19,19 @@ static void print_row(const uint8_t *row) {
     printf("\n");
 }
 
+/* Each leg's cost and chain. */
+static void print_legs(size_t legs, const hurzelma_half_lines *costs, const uint8_t *chains) {
+    for (size_t k = 0; k < legs; k++) {
+        const uint8_t *row = chains + k * HURZELMA_ROW;
+        if (row[0] == 0) {
+            printf("leg %zu: none\n", k);
+        } else {
+            printf("leg %zu: %d half lines by", k, (int)costs[k]);
+            print_row(row);
+        }
+    }
+}
+
 /* Routes legs over three formats, with delays in half lines, and prints each leg's cost and chain, or the loop. */
 static void route(const hurzelma_half_lines cards[FORMATS * FORMATS], const struct hurzelma_leg legs[LEGS]) {
     hurzelma_half_lines costs[LEGS] = {0};
@@ -31,15 +45,32 @@ static void route(const hurzelma_half_lines cards[FORMATS * FORMATS], const stru
         }
         return;
     }
-    for (size_t k = 0; k < LEGS; k++) {
-        const uint8_t *row = chains + k * HURZELMA_ROW;
-        if (row[0] == 0) {
-            printf("leg %zu: none\n", k);
-        } else {
-            printf("leg %zu: %d half lines by", k, (int)costs[k]);
-            print_row(row);
-        }
+    print_legs(LEGS, costs, chains);
+}
+
+/* Our own table with one more card, half a line from format 6 to format 4: checked, and a leg routed over it, bare and with format 3
+ * barred. Then a card is changed so that the table gains. */
+static void table(void) {
+    const struct hurzelma_leg leg = {1, 0};
+    hurzelma_half_lines numbers[HURZELMA_TABLE], place[HURZELMA_TABLE], cost;
+    uint8_t chain[HURZELMA_ROW];
+    hurzelma_own_table(numbers, HURZELMA_TABLE);
+    numbers[1 * HURZELMA_TABLE_FORMATS + 0] = HURZELMA_NO_DELAY;
+    numbers[6 * HURZELMA_TABLE_FORMATS + 4] = 1;
+    uint32_t told = hurzelma_check_table(numbers, HURZELMA_TABLE, place, HURZELMA_TABLE);
+    if (told != HURZELMA_GRANTED) {
+        print_told(told);
+        return;
     }
+    for (uint64_t bars = 0; bars <= 1u << 3; bars += 1u << 3) {
+        hurzelma_route_table(place, HURZELMA_TABLE, bars, &leg, 1, &cost, 1, chain, sizeof chain);
+        print_legs(1, &cost, chain);
+    }
+    numbers[0] = 0;
+    print_told(hurzelma_check_table(numbers, HURZELMA_TABLE, place, HURZELMA_TABLE));
+    numbers[0] = HURZELMA_NO_DELAY;
+    numbers[7 * HURZELMA_TABLE_FORMATS + 6] = -1;
+    print_told(hurzelma_check_table(numbers, HURZELMA_TABLE, place, HURZELMA_TABLE));
 }
 
 /* Routes one leg over costs of a delay and a depth. */
@@ -93,6 +124,7 @@ int main(void) {
     route(gaining, legs);
     route(cards, wrong);
     route_both();
+    table();
     answer("(bay delay 3)\n(format 0 UYVY)\n(format 1 v210)\n(format 2 NV12)\n"
            "(card (0 1) 4)\n(card (0 2) 6)\n(card (2 1) -3)\n(leg (0 1))\n(leg (1 0))\n(end)\n", 16);
     answer("(bay both 2)\n(format 0 UYVY)\n(format 1 v210)\n(card (0 1) (-4.5 10))\n(leg (0 1))\n(leg (1 1))\n(end)\n", HURZELMA_ANSWER);

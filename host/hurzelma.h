@@ -99,6 +99,29 @@ uint32_t hurzelma_route_both(size_t n, const struct hurzelma_both *cards, size_t
                              struct hurzelma_both *costs, size_t costs_length,
                              uint8_t *chains, size_t chains_length);
 
+/* A house table of a customer's: 64 delays in half lines between 8 formats, row by row: that of the card from format s to format t
+ * stands at s * 8 + t, HURZELMA_NO_DELAY where there is none. */
+#define HURZELMA_TABLE_FORMATS 8
+#define HURZELMA_TABLE 64
+
+/* Checks such a table and, where it is granted, copies it into a place of 64 numbers; refused, the place is as it was.
+ *   register 28: there are not 64 numbers, or the place has not 64 (part 64); or the number at the index that the part tells, the
+ *                first such, is neither HURZELMA_NO_DELAY nor, off the diagonal, a delay that a card may have
+ *   register 29: a closed walk over the cards undercuts the unit, 0 half lines */
+uint32_t hurzelma_check_table(const hurzelma_half_lines *numbers, size_t numbers_length,
+                              hurzelma_half_lines *place, size_t place_length);
+
+/* The same for our own table, which is granted wherever the place has 64 numbers. */
+uint32_t hurzelma_own_table(hurzelma_half_lines *place, size_t place_length);
+
+/* Finds a chain of least cost for every leg over the table that a place holds, under bars: bit f of bars takes the format f out of
+ * use, with all its cards. A place that hurzelma_check_table would refuse as a table has no card. So 26 is never told, and neither
+ * is 16; all else is as in hurzelma_route_delay over these cards. */
+uint32_t hurzelma_route_table(const hurzelma_half_lines *place, size_t place_length, uint64_t bars,
+                              const struct hurzelma_leg *legs, size_t legs_length,
+                              hurzelma_half_lines *costs, size_t costs_length,
+                              uint8_t *chains, size_t chains_length);
+
 /* What a ticket is told: its answer is written, or the place is too short for it. */
 #define HURZELMA_WRITTEN 0u
 #define HURZELMA_PLACE_SHORT 1u

@@ -418,8 +418,79 @@ def short_memory():
         print(f"a {what} less: bay 15.{part} at {end}\nsheets as found")
 
 
+# House tables of a customer's: 64 numbers in half lines, row by row, with NO for no card.
+
+NO = -(2**31)
+OWN = [NO if word == "-" else 2 * int(word) for line in HOUSE.splitlines() for word in line.split()]
+BOUNDS_AND_MORE = [1, NO, 2000000, 2000001, -2000000, -2000001, 2**31 - 1, NO + 1]
+
+
+def cards_of(numbers):
+    return {divmod(index, 8): number for index, number in enumerate(numbers) if number != NO}
+
+
+def check(numbers, room):
+    if len(numbers) != 64 or room != 64:
+        return "register 28.64"
+    for index, number in enumerate(numbers):
+        if number != NO and (index % 9 == 0 or abs(number) > 2000000):
+            return f"register 28.{index}"
+    return "register 29.0" if has_gaining_loop(8, cards_of(numbers)) else "passes"
+
+
+def but(numbers, index, number):
+    return numbers[:index] + [number] + numbers[index + 1 :]
+
+
+def leg_cost(cards, start, end):
+    cost = least_delays(8, cards, start).get(end)
+    return "none" if cost is None else str(cost)
+
+
+def drawn(dice):
+    density = dice.below(5) + 1
+    low = dice.number(-2, 3)
+    numbers = [NO] * 64
+    for index in range(64):
+        if index % 9 != 0 and dice.below(8) < density:
+            numbers[index] = dice.number(low, 12)
+    if dice.below(10) == 0:
+        numbers[17] = 2000001
+    return numbers
+
+
+def drawn_tables():
+    dice = Dice(11)
+    for k in range(60):
+        numbers = drawn(dice)
+        told = check(numbers, 64)
+        cards = cards_of(numbers) if told == "passes" else {}
+        line = f"table {k}: {told}"
+        for _ in range(2):
+            start, end, barred = dice.below(8), dice.below(8), dice.below(8)
+            few = without(cards, barred)
+            for some in cards, few, without(turned(few), 1):
+                line += " " + leg_cost(some, start, end)
+        print(line)
+
+
+def customer_tables():
+    for index in range(64):
+        print(f"index {index}: " + " ".join(check(but(OWN, index, number), 64) for number in BOUNDS_AND_MORE))
+    tables = [], OWN[:63], OWN, OWN + [NO], but(OWN, 0, 0), but(OWN, 62, -1)
+    for room in 0, 63, 64, 65:
+        print(f"room {room}: " + " ".join(check(numbers, room) for numbers in tables))
+    for room in 0, 63, 64, 65:
+        print(f"our own in {room}: {check(OWN, room)}")
+    two = but(but(OWN, 63, 0), 17, 2000001)
+    print(f"two at fault: {check(two, 64)} {check(but(two, 62, -1), 64)}")
+    drawn_tables()
+    print(f"legs over a place of 64 and of 63: {leg_cost(cards_of(OWN), 0, 1)} none")
+
+
 play_registers()
 trials()
 fixed_cases()
 house_rows()
 short_memory()
+customer_tables()

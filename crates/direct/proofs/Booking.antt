@@ -1,11 +1,19 @@
 -- Legs booked one after the other: what is known after some of them.
-use Rattle.std.proofs.Common.{◌≡◌, ℕ, ◌+◌, ◌<◌, ◌≤◌, List, [], ◌∷◌, ◌++◌, length, get_or, take, drop, None, Ok, sym, refl, ap, ◌∙◌, append_assoc, append-nil}
+use Rattle.std.proofs.Common.{◌≡◌, ℕ, ◌+◌, ◌<◌, ◌≤◌, Bool, true, false, Some, Option, arith, List, [], ◌∷◌, ◌++◌, length, map, get_or, take, drop, None, Ok, sym, refl, ap, ◌∙◌, append_assoc, append-nil}
 use Rattle.std.proofs.lemmas.List.{drop_more, take_more, take_all, drop_all}
 use Rattle.costs.specs.declared.Cost.{Ghosts as Kind}
-use Rattle.registers.specs.Fault.{first_cause, after}
+use Rattle.registers.specs.Fault.{after, code, first_cause}
+use Rattle.registers.specs.declared.fault.Code.{Code}
+use Rattle.registers.specs.declared.fault.Layer.TheVariants.{Bay as BayLayer}
 use Rattle.lent.specs.List.{or_else}
-use Rattle.bay.specs.Plain.{Plain, book_causes}
+use Rattle.registers.specs.Meaning.{Meaning, meant}
+use Rattle.registers.specs.declared.Register.{Ghosts as RegisterOf}
+use Rattle.bay.specs.Bays.{legs, plain}
+use Rattle.bay.specs.Plain.{Plain, book_causes, ends}
+use Rattle.bay.specs.declared.bays.Bay.{Bay}
 use Rattle.bay.specs.declared.legs.Ends.{Ends}
+use Rattle.bay.proofs.Granted.{none≢some}
+use Rattle.tables.proofs.Verdicts.{other_number}
 use Rattle.direct.specs.Cards.{with_more, booking_cause, AllBooked}
 
 -- the first k legs are booked, and the cause is that of the others
@@ -42,3 +50,20 @@ module _ {C : Type 0} {K : Kind C} (p : Plain K) (legs : List Ends) where
         answers = sym (t.rest ∙ ap (booking_cause q) (drop_all k legs end));
         booked = λ none. t.is ∙ ap (with_more p) (take_all k legs end);
       }
+
+-- no leg is refused for a loop
+leg_cause : (from to full : Bool) (rest : Option Code) → (rest ≡ Some (code BayLayer 26 0) → ⊥) →
+    or_else (first_cause ((from, code BayLayer 11 0) ∷ (to, code BayLayer 11 1) ∷ (full, code BayLayer 24 0) ∷ [])) rest ≡ Some (code BayLayer 26 0) → ⊥
+leg_cause true to full rest other e = other_number (code BayLayer 11 0) (code BayLayer 26 0) (λ d. omega arith) e
+leg_cause false true full rest other e = other_number (code BayLayer 11 1) (code BayLayer 26 0) (λ d. omega arith) e
+leg_cause false false true rest other e = other_number (code BayLayer 24 0) (code BayLayer 26 0) (λ d. omega arith) e
+leg_cause false false false rest other e = other e
+
+pub booked_no_loop : {C : Type 0} {K : Kind C} (p : Plain K) (legs : List Ends) → booking_cause p legs ≡ Some (code BayLayer 26 0) → ⊥
+booked_no_loop p [] e = none≢some e
+booked_no_loop p (leg ∷ legs) e = leg_cause _ _ _ _ (booked_no_loop (with_more p (leg ∷ [])) legs) e
+
+-- what a new bay is, over a register that holds m
+pub new_bay : {R C : Type 0} {H : RegisterOf R C} {K : Kind C} (b : Bay R C H K) (m : Meaning C) → H.holds b.register ≡ m → legs b ≡ [] →
+    plain b ≡ record { register = meant K m; legs = [] }
+new_bay {K = K} b m held none = λ i. record { register = meant K (held i); legs = map ends (none i) }

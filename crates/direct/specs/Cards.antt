@@ -32,6 +32,26 @@ module _ {C : Type 0} {K : Kind C} where
     pub answers : refused r ≡ booking_cause p legs
     pub booked : booking_cause p legs ≡ None → p' ≡ with_more p legs
 
+-- A bay p has no legs, and `first` is the first cause why a route with these is not made.
+module _ {C : Type 0} {K : Kind C} (p : Plain K) (first : Option Code) (legs : List Ends) (before after : Buffers C) (r : Result ℕ BayFault) where
+  -- refused before a route is made: nothing has changed
+  pub record NotRouted : Type 0 where
+    pub cause : Code
+    pub holds : first ≡ Some cause
+    pub answers : refused r ≡ Some cause
+    pub same : after ≡ before
+
+  -- The legs are booked, and the route is that of a bay with them. `booked` and `noted` are the bay's legs with their notes, before
+  -- and after; they end with the call.
+  pub record RoutedOver : Type 0 where
+    pub no_cause : first ≡ None
+    pub booked : List Leg
+    pub noted : List Leg
+    pub route : RouteAnswer (with_more p legs) booked noted before after r
+
+  abbrev pub BookedRoute : Type 0
+  BookedRoute = NotRouted ⊎ RoutedOver
+
 module _ {C : Type 0} (K : Kind C) (n : ℕ) (cards : List C) (legs : List Ends) where
   -- the plain bay over the cards that are handed in, without legs
   abbrev pub bay_over : Plain K
@@ -41,21 +61,5 @@ module _ {C : Type 0} (K : Kind C) (n : ℕ) (cards : List C) (legs : List Ends)
   abbrev pub cards_cause : Option Code
   cards_cause = or_else (first_cause (matrix_causes n (length cards))) (booking_cause bay_over legs)
 
-  module _ (before after : Buffers C) (r : Result ℕ BayFault) where
-    -- refused before a route is made: nothing has changed
-    pub record NotRouted : Type 0 where
-      pub cause : Code
-      pub holds : cards_cause ≡ Some cause
-      pub answers : refused r ≡ Some cause
-      pub same : after ≡ before
-
-    -- The legs are booked, and the route is that of a bay over the cards. `booked` and `noted` are the bay's legs with their
-    -- notes, before and after; they end with the call.
-    pub record RoutedOver : Type 0 where
-      pub no_cause : cards_cause ≡ None
-      pub booked : List Leg
-      pub noted : List Leg
-      pub route : RouteAnswer (with_more bay_over legs) booked noted before after r
-
-    abbrev pub CardsAnswer : Type 0
-    CardsAnswer = NotRouted ⊎ RoutedOver
+  abbrev pub CardsAnswer : Buffers C → Buffers C → Result ℕ BayFault → Type 0
+  CardsAnswer = BookedRoute bay_over cards_cause legs

@@ -9,7 +9,7 @@ use lent::Grid;
 use registers::Register;
 
 // Books legs one after the other, up to the first that is refused.
-fn book_all<R: Register>(bay: &mut Bay<R>, legs: &[Ends]) -> Result<(), BayFault>
+pub(crate) fn book_all<R: Register>(bay: &mut Bay<R>, legs: &[Ends]) -> Result<(), BayFault>
     ensures { AllBooked (plain bay.old) (plain bay.new) legs.now result }
 {
     for leg in legs {

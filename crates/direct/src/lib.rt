@@ -2,5 +2,7 @@
 #![tactic(auto)]
 
 mod cards;
+mod loaded;
 
 pub use cards::route_cards;
+pub use loaded::route_table;

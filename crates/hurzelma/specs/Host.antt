@@ -1,7 +1,9 @@
 -- What a host in C is told, as numbers.
-use Rattle.std.specs.Prelude.{◌≡◌, ℕ, ◌+◌, ◌*◌, ◌≤◌, List, length, Some, None, Ok, Err, Option, Result}
+use Rattle.std.specs.Prelude.{◌≡◌, ℕ, ◌+◌, ◌*◌, ◌≤◌, List, length, ℤ, Some, None, Ok, Err, Option, Result}
 use Rattle.costs.specs.declared.Cost.{Ghosts as Kind}
-use Rattle.costs.specs.declared.Cost.{Ghosts as Kind}
+use Rattle.costs.specs.declared.delay.Delay.{Delay}
+use Rattle.registers.specs.Fault.{after}
+use Rattle.registers.specs.House.{house_places}
 use Rattle.registers.specs.Meaning.{most_formats}
 use Rattle.registers.specs.declared.fault.Code.{Code}
 use Rattle.registers.specs.declared.fault.Layer.{Layer}
@@ -14,6 +16,8 @@ use Rattle.bay.specs.declared.legs.Ends.{Ends}
 use Rattle.listing.specs.Answered.{Listed}
 use Rattle.listing.specs.declared.answer.PlaceShort.{PlaceShort}
 use Rattle.direct.specs.Cards.{CardsAnswer}
+use Rattle.direct.specs.Loaded.{TableAnswer}
+use Rattle.tables.specs.Tables.{TableVerdict}
 
 abbrev pub layer_number : Layer → ℕ
 layer_number layer.Ticket = 1
@@ -37,6 +41,22 @@ pub record RouteTold {C : Type 0} (K : Kind C) (n : ℕ) (cards : List C) (legs 
   pub room : n ≤ most_formats → n * n ≤ length table
   pub answer : Result ℕ BayFault
   pub right : CardsAnswer K n cards legs (buffers table costs chains) (buffers table' costs' chains') answer
+  pub number : r ≡ status (refused answer)
+
+-- The check of a table into a place, which is written where it is granted.
+pub record TableTold (numbers before after' : List ℤ) (r : ℕ) : Type 0 where
+  pub answer : Option Code
+  pub judged : TableVerdict numbers (length before) answer
+  pub place : after' ≡ after answer before numbers
+  pub number : r ≡ status answer
+
+-- The route over the table in a place, in some working table that is long enough for it.
+pub record TableRouteTold (place : List ℤ) (bits : ℕ) (legs : List Ends) (costs costs' : List Delay) (chains chains' : List ℕ) (r : ℕ) : Type 0 where
+  pub table : List (Cell Delay)
+  pub table' : List (Cell Delay)
+  pub room : house_places ≤ length table
+  pub answer : Result ℕ BayFault
+  pub right : TableAnswer place bits legs (buffers table costs chains) (buffers table' costs' chains') answer
   pub number : r ≡ status (refused answer)
 
 -- what a ticket's call answers: 0, and the length that was written; or 1, and the length that is needed

@@ -4,18 +4,22 @@
 
 mod both;
 
-ghost use Rattle.std.specs.Prelude.{◌≡◌};
+ghost use Rattle.std.specs.Prelude.{◌≡◌, length};
+ghost use Rattle.registers.specs.House.{house_places};
 ghost use Rattle.costs.specs.Kinds.{delays, depths};
 ghost use Rattle.bay.specs.Faults.{refused};
+ghost use Rattle.tables.specs.Faults.{table_refusal};
+ghost use Rattle.tables.specs.Tables.{own_numbers};
 ghost use Rattle.hurzelma.specs.Both.{crossing};
-ghost use Rattle.hurzelma.specs.Host.{fault_number, status, RouteTold, TextTold};
+ghost use Rattle.hurzelma.specs.Host.{fault_number, status, RouteTold, TableRouteTold, TableTold, TextTold};
 
 use bay::{BayFault, Cell, Ends};
 use both::Both;
 use costs::{Cost, Delay, Depth};
-use direct::route_cards;
+use direct::{route_cards, route_table};
 use listing::answer_on_stack;
-use registers::{Code, Layer, MOST_FORMATS};
+use registers::{Bars, Code, Layer, MOST_FORMATS};
+use tables::{PLACES, TableFault, check_own_table, check_table};
 
 // As many cells as a route over the most formats wants.
 const CELLS: usize = MOST_FORMATS * MOST_FORMATS;
@@ -110,6 +114,50 @@ pub extern "C" fn hurzelma_route_both(
         chains.old chains.new result }
 {
     routed!(n, cards, legs, costs, chains)
+}
+
+// What a host is told of a table: 0 where it passes.
+fn table_status(answer: Result<(), TableFault>) -> u32
+    ensures { result ≡ status (table_refusal answer) }
+{
+    match answer {
+        Ok(()) => 0,
+        Err(fault) => fault_number(fault.code()),
+    }
+}
+
+// Checks a customer's table into a place: 0, or the number of the fault.
+#[unsafe(no_mangle)]
+pub extern "C" fn hurzelma_check_table(numbers: &[i32], place: &mut [i32]) -> u32
+    ensures { TableTold numbers.now place.old place.new result }
+{
+    table_status(check_table(numbers, place))
+}
+
+// Checks our own table into a place: 0 where that has its length, or the number of the fault.
+#[unsafe(no_mangle)]
+pub extern "C" fn hurzelma_own_table(place: &mut [i32]) -> u32
+    ensures passes { length place.old ≡ house_places → result ≡ 0 }
+    ensures told { TableTold own_numbers place.old place.new result }
+{
+    table_status(check_own_table(place))
+}
+
+// Routes legs over the table in a place, under bars: 0, or the number of the fault, which is never that of a loop.
+#[unsafe(no_mangle)]
+pub extern "C" fn hurzelma_route_table(
+    place: &[i32],
+    bars: u64,
+    legs: &[Ends],
+    costs: &mut [Delay],
+    chains: &mut [u8],
+) -> u32
+    ensures { TableRouteTold place.now bars legs.now costs.old costs.new
+        chains.old chains.new result }
+{
+    let mut table = [Cell::empty(); PLACES];
+    let bars = Bars { bits: bars };
+    status(route_table(place, bars, legs, &mut table, costs, chains))
 }
 
 // Routes a ticket and writes the text of its answer. The length is that of the text, or what a place too short would need.

@@ -12,7 +12,7 @@ use crate::numeral::Numeral;
 use crate::sort::{Sort, sort_of};
 use crate::words::{Word, begins_kind, kind_by, size_begins, word_by};
 
-// The words of the kinds have so many letters.
+// The words of the kinds have at most so many letters.
 const KIND_LETTERS: usize = 5;
 
 // What is being read. In a word or a code, `at` says how far. A delay is read as whole lines, with a point and a 5 after them for half
@@ -248,7 +248,7 @@ impl Reader {
         }
     }
 
-    // The same where no half line was read: there is no -0.
+    // The sign after whole lines, which are no -0.
     fn whole_lines(&mut self, sign: u8) -> bool
         requires at { self.old.state ≡ Lines }
         requires ends { (sign == 32 || sign == 41) ≡ true }

@@ -79,7 +79,8 @@ pub fn begins_kind(letters: &[u8]) -> bool
     ensures { let delay = kind_text Kind.Delay in
         let depth = kind_text Kind.Depth in
         let both = kind_text Kind.Both in
-        result ≡ (is_front letters.now delay || is_front letters.now depth || is_front letters.now both) }
+        result ≡ (is_front letters.now delay || is_front letters.now depth
+        || is_front letters.now both) }
 {
     is_front(letters, kind_letters(Kind::Delay))
         || is_front(letters, kind_letters(Kind::Depth))

@@ -4,6 +4,7 @@
 mod dice;
 mod fixed;
 mod kind;
+mod loaded;
 mod play;
 mod random;
 mod route;
@@ -12,6 +13,7 @@ mod short;
 
 use crate::dice::Dice;
 use crate::fixed::fixed_cases;
+use crate::loaded::customer_tables;
 use crate::play::{Change, play, play_all};
 use crate::random::random_trials;
 use crate::rows::house_rows;
@@ -66,7 +68,8 @@ fn run(rt: &HostRuntime) -> anyhow::Result<()> {
     random_trials(rt)?;
     fixed_cases(rt)?;
     house_rows(rt)?;
-    short_memory(rt)
+    short_memory(rt)?;
+    customer_tables(rt)
 }
 
 fn main(rt: HostRuntime) -> anyhow::Result<()> {

@@ -1,0 +1,4 @@
+pub mod Faults
+pub mod Tables
+pub mod ViewLaws
+pub mod OwnLaws
