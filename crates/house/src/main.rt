@@ -39,7 +39,7 @@ impl Job {
         match (words.next(), words.next()) {
             (Some("bar"), word) => {
                 let format = number(word)?;
-                if format < 64 {
+                if format < u64::BITS as usize {
                     self.bars |= 1 << format;
                 }
             }

@@ -4,7 +4,9 @@ ghost use Rattle.registers.specs.Fault.{first_cause, refusal, after};
 ghost use Rattle.registers.specs.Meaning.{entered, withdrawn, enter_causes, withdraw_causes};
 ghost use Rattle.costs.specs.Kind.{admits};
 ghost use Rattle.lent.specs.Lent.{begun};
-ghost use Rattle.lent.specs.List.{entries_fit, list_fits, list_causes, first_cost, is_for, is_lower, listed, list_cleared, shifted_up, shifted_down, with_entry, without, FirstLive, Rising, EmptyFrom, InOrder, FoundAt, NoneAt};
+ghost use Rattle.lent.specs.List.{entries_fit, list_fits, list_causes, first_cost, is_for, is_lower, listed, list_cleared};
+ghost use Rattle.lent.specs.List.{shifted_up, shifted_down, with_entry, without, FirstLive, Rising, EmptyFrom, InOrder};
+ghost use Rattle.lent.specs.List.{FoundAt, NoneAt};
 
 use crate::memory::{judge_memory, nearest_size, size_fits};
 use costs::Cost;
@@ -39,8 +41,9 @@ pub struct List<'a, C: Cost> {
 impl<C: Cost> Drop for List<'_, C> {
     fn drop(self)
         ensures memory { self.exit.0.now ≡ self.entry.entries.now }
-        ensures order { let fits = list_fits self.entry.n (length self.exit.0.now) in
-            fits ≡ true → (count : ℕ) × InOrder (admits C.Cost) self.entry.n count self.exit.0.now }
+        ensures order { let es = self.exit.0.now in
+            list_fits self.entry.n (length es) ≡ true →
+            (count : ℕ) × InOrder (admits C.Cost) self.entry.n count es }
     {
         let List {
             entries: _,
