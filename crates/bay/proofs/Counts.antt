@@ -1,17 +1,17 @@
 -- Counting the rows that the first stage goes through: row by row at one pivot, and pivot after pivot.
-use Rattle.std.proofs.Common.{◌≡◌, ℕ, suc, zero, ◌+◌, ◌<◌, ◌≤◌, Bool, true, false, ◌⊎◌, List, [], ◌∷◌, ◌++◌, length, get_or, Contains, AllPairs, is_some, Some, None, Option, sym, refl, ap, ◌∙◌, subst, inl, inr, arith}
+use Rattle.std.proofs.Common.{◌≡◌, ℕ, suc, zero, ◌+◌, ◌<◌, ◌≤◌, Bool, true, false, ◌⊎◌, List, [], ◌∷◌, ◌++◌, length, Contains, AllPairs, is_some, Some, None, Option, sym, refl, ap, ◌∙◌, subst, inl, inr, arith}
 use mir.Val.{bool_byte}
 use Rattle.std.proofs.lemmas.Bool.{cases_lt, false≢true}
 use Rattle.std.proofs.lemmas.List.{length-append}
 use Rattle.std.proofs.lemmas.List.Elements.{Contains-get_or, Contains-append_left, Contains-push, Contains-push_cases}
 use Rattle.std.proofs.lemmas.List.Quantifiers.{all_pairs_push}
 use Rattle.costs.specs.Algebra.{Algebra, Lawful}
-use Rattle.walks.specs.Walk.{path, Below, Walk, LowLeast}
+use Rattle.walks.specs.Walk.{LowLeast}
 use Rattle.walks.specs.Theorems.{Sound}
 use Rattle.walks.proofs.Runs.{to_runs}
 use Rattle.walks.proofs.Loops.{runs_inside}
 use Rattle.bay.specs.Eliminated.{Tally}
-use Rattle.bay.specs.RowsPassed.{LeadsLow, RowPairs, RowsPassed}
+use Rattle.bay.specs.RowsPassed.{LeadsLow, RowsPassed}
 
 none_in : {X : Type 0} (x : X) → Contains [] x → ⊥
 none_in x c = absurd (omega (arith, c.1))

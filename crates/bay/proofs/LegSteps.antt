@@ -1,8 +1,8 @@
 -- What the methods of the legs do to the list that is held, the first `count` of the array.
-use Rattle.std.proofs.Common.{◌≡◌, ℕ, suc, ◌+◌, ◌-◌, ◌<◌, ◌≤◌, ◌⊎◌, inl, inr, Bool, true, false, List, ◌++◌, length, get_or, set, take, drop, sym, ap, ◌∙◌, subst, add-one, arith, below_more, length-set, length-append, length-drop, length-take-le, get_or-take}
+use Rattle.std.proofs.Common.{◌≡◌, ℕ, suc, ◌+◌, ◌-◌, ◌<◌, ◌≤◌, ◌⊎◌, inl, inr, Bool, true, false, List, ◌++◌, length, get_or, set, take, drop, sym, ap, ◌∙◌, subst, add-one, arith, below_more, length-set, length-append, length-drop, length-take-le}
 use lib.ListN.{length-map}
 use Rattle.std.proofs.lemmas.List.Edits.{take-paste}
-use Rattle.std.proofs.lemmas.List.{drop-take, same_lists, get_or-map, get_or-set_other, get_or-set_same, get_or_append_left, get_or_default, take-take}
+use Rattle.std.proofs.lemmas.List.{drop-take, same_lists, get_or-set_other, get_or-set_same, get_or_default, take-take}
 use Rattle.std.proofs.lemmas.Bool.{cases_eq}
 use Rattle.std.specs.List.{copy_within}
 use Rattle.registers.specs.Meaning.{most_formats}
@@ -11,7 +11,9 @@ use Rattle.bay.specs.declared.legs.Note.TheVariants.{Open}
 use Rattle.bay.specs.declared.legs.Leg.{Leg}
 use Rattle.bay.specs.declared.legs.Legs.{Legs}
 use Rattle.bay.specs.Leg.{no_leg, noted}
+use Rattle.bay.specs.FormatSets.{holds}
 use Rattle.bay.specs.Leg.{opened}
+use Rattle.bay.specs.declared.sets.FormatSet.{FormatSet}
 use Rattle.bay.specs.Legs.{booked, struck}
 
 pub length_booked : (l : Legs) → length (booked l) ≡ l.count
@@ -85,3 +87,24 @@ started_passes legs goal n starts (long, seen) none starts' e =
       below_more (λ k. (get_or legs k no_leg).to ≡ goal → get_or starts (get_or legs k no_leg).from false ≡ true) n seen
           (λ to. absurd (none to)),
     )
+
+-- the set has the formats where the first n legs end, and no other
+abbrev pub Ended : List Leg → ℕ → FormatSet → Type 0
+Ended legs n goals = ((k : ℕ) → k < n → holds goals (get_or legs k no_leg).to ≡ true) ×
+    ((f : ℕ) → holds goals f ≡ true → (k : ℕ) × (k < n) × ((get_or legs k no_leg).to ≡ f))
+
+pub ended_more : (legs : List Leg) (n : ℕ) (goals : FormatSet) → Ended legs n goals → (leg : Leg) → leg ≡ get_or legs n no_leg → (goals' : FormatSet) → holds goals' leg.to ≡ true →
+    ((f : ℕ) → (f ≡ leg.to → ⊥) → holds goals' f ≡ holds goals f) → Ended legs (n + 1) goals'
+ended_more legs n goals (seen, only) leg is goals' has others = (
+  below_more (λ k. holds goals' (get_or legs k no_leg).to ≡ true) n
+      (λ k l. elim (cases_eq (get_or legs k no_leg).to leg.to) [
+        | inl e ↦ subst (λ f. holds goals' f ≡ true) (sym e) has
+        | inr ne ↦ others _ ne ∙ seen k l
+      ])
+      (subst (λ x. holds goals' x.to ≡ true) is has),
+  λ f h. go f h (cases_eq f leg.to),
+)
+  where
+    go : (f : ℕ) → holds goals' f ≡ true → (f ≡ leg.to) ⊎ (f ≡ leg.to → ⊥) → (k : ℕ) × (k < n + 1) × ((get_or legs k no_leg).to ≡ f)
+    go f h (inl same) = (n, omega arith, ap (λ l. l.to) (sym is) ∙ sym same)
+    go f h (inr other) = let (k, low, to) = only f (sym (others f other) ∙ h) in (k, omega arith, to)

@@ -1,49 +1,40 @@
 -- How far the cells of a table have come: each has its least cost over inner formats below a level of its own.
 -- A pass by way of k lifts the cells that it writes from level k to the next; the cells that it reads are at level k.
-use Rattle.std.proofs.Common.{◌≡◌, ℕ, suc, ◌+◌, ◌-◌, ◌*◌, ◌<◌, ◌≤◌, min, ◌⊎◌, List, length, Option, sym, refl, ◌∙◌, subst, inl, inr, arith}
+use Rattle.std.proofs.Common.{◌≡◌, ℕ, suc, ◌+◌, ◌-◌, ◌<◌, ◌≤◌, min, ◌⊎◌, Option, sym, refl, subst, inl, inr, arith}
 use Rattle.std.proofs.lemmas.Bool.{cases_lt}
 use Rattle.costs.specs.declared.Cost.{Ghosts as Kind}
-use Rattle.costs.specs.Algebra.{Algebra, Lawful}
+use Rattle.costs.specs.Algebra.{Lawful}
 use Rattle.walks.specs.Walk.{Least, LowLeast, LowWalkCosts, GainsAt}
 use Rattle.walks.specs.Theorems.{Sound, LookHits}
-use Rattle.bay.specs.Cells.{Each, least_in}
+use Rattle.bay.specs.Cells.{Table, Roomy, Each, least_in}
 use Rattle.walks.specs.Levels.{Near, NoLoopBelow}
-use Rattle.bay.specs.Eliminated.{Block, PivotReady, Improved, Closes, Combines, Brought, FirstDone}
-use Rattle.bay.specs.declared.cells.Cell.{Cell}
+use Rattle.bay.specs.Eliminated.{Block, PivotReady, Improved, Closes, FirstDone}
 use Rattle.walks.proofs.Least.{least_unique}
 use Rattle.walks.proofs.Fold.{fold_step}
 use Rattle.walks.proofs.Loops.{look_finds, no_hidden_loop}
 use Rattle.walks.proofs.Cut.{low_near, least_is_near}
-use Rattle.walks.proofs.Stages.{low_zero, second_cell, third_cell}
+use Rattle.walks.proofs.Stages.{low_zero}
 
-module _ {C : Type 0} (K : Kind C) (n : ℕ) (card : ℕ → ℕ → Option K.algebra.Value) (cells : List (Cell C)) where
+module _ {C : Type 0} (K : Kind C) (n : ℕ) (card : ℕ → ℕ → Option K.algebra.Value) (cells : Table C) where
   -- the first stage before its look at h
   abbrev pub FirstTo : ℕ → Type 0
   FirstTo h = Each K n cells (λ s t. LowLeast K.algebra card (min (min s t) h) s t)
 
-  -- the second stage before it comes to v
-  abbrev pub SecondTo : ℕ → ℕ → Type 0
-  SecondTo goal v = (j : ℕ) → goal < j → j < v → LowLeast K.algebra card j j goal (least_in K n cells j j)
-
-  -- the third stage before it comes to the formats below v
-  abbrev pub ThirdTo : ℕ → ℕ → Type 0
-  ThirdTo goal v = (j : ℕ) → v ≤ j → j < n → (j ≡ goal → ⊥) → Least K.algebra card j goal (least_in K n cells j j)
-
 module _ {C : Type 0} (K : Kind C) (L : Lawful K.algebra) (n : ℕ) (card : ℕ → ℕ → Option K.algebra.Value) (sound : Sound K.algebra n card) where
-  near_low : (h s t : ℕ) (o : Option K.algebra.Value) → h ≤ n → NoLoopBelow K.algebra card h → LowLeast K.algebra card h s t o → Near K.algebra n o
+  pub near_low : (h s t : ℕ) (o : Option K.algebra.Value) → h ≤ n → NoLoopBelow K.algebra card h → LowLeast K.algebra card h s t o → Near K.algebra n o
   near_low h s t o l calm low x e =
       let few = sound.small in
       L.within_more (suc h) (suc n) x (omega arith) (omega arith) (low_near L card n sound h l calm s t x (subst (LowLeast K.algebra card h s t) e low))
 
   -- the first stage
-  pub first_none : (cells : List (Cell C)) → Each K n cells (λ s t o. o ≡ card s t) → FirstTo K n card cells 0
+  pub first_none : (cells : Table C) → Each K n cells (λ s t o. o ≡ card s t) → FirstTo K n card cells 0
   first_none cells fresh s t ls lt ne =
       let e : 0 ≡ min (min s t) 0 = omega arith in
       subst (λ h. LowLeast K.algebra card h s t (least_in K n cells s t)) e (subst (LowLeast K.algebra card 0 s t) (sym (fresh s t ls lt ne)) (low_zero L card s t))
 
-  pub first_ready : (cells : List (Cell C)) (h : ℕ) → n * n ≤ length cells → h < n → NoLoopBelow K.algebra card h → FirstTo K n card cells h → PivotReady K n h cells
+  pub first_ready : (cells : Table C) (h : ℕ) → Roomy K n cells → h < n → NoLoopBelow K.algebra card h → FirstTo K n card cells h → PivotReady K n h cells
   first_ready cells h room lh calm to = record {
-    room = room;
+    roomy = room;
     small = sound.small;
     inside = lh;
     near = λ s ls ne. (
@@ -52,7 +43,7 @@ module _ {C : Type 0} (K : Kind C) (L : Lawful K.algebra) (n : ℕ) (card : ℕ 
     );
   }
 
-  pub first_more : (entry exit : List (Cell C)) (h : ℕ) → h < n → (GainsAt K.algebra card h → ⊥) → FirstTo K n card entry h →
+  pub first_more : (entry exit : Table C) (h : ℕ) → h < n → (GainsAt K.algebra card h → ⊥) → FirstTo K n card entry h →
       Improved K n h (Block (h + 1) n (h + 1) n) entry exit → FirstTo K n card exit (h + 1)
   first_more entry exit h lh calm to i s t ls lt ne = go (cases_lt h (min s t))
     where
@@ -69,7 +60,7 @@ module _ {C : Type 0} (K : Kind C) (L : Lawful K.algebra) (n : ℕ) (card : ℕ 
           subst (LowLeast K.algebra card (min (min s t) (h + 1)) s t) (sym (i.missed s t ls lt (λ b. absurd (omega arith)))) (at (min (min s t) (h + 1)) s t ls lt ne (omega arith))
 
   -- what the look at h found
-  pub first_looked : (cells : List (Cell C)) (h : ℕ) → h < n → NoLoopBelow K.algebra card h → FirstTo K n card cells h →
+  pub first_looked : (cells : Table C) (h : ℕ) → h < n → NoLoopBelow K.algebra card h → FirstTo K n card cells h →
       (((k : ℕ) × (k < h) × Closes K n cells h k) → GainsAt K.algebra card h) × (((k : ℕ) → k < h → Closes K n cells h k → ⊥) → GainsAt K.algebra card h → ⊥)
   first_looked cells h lh calm to = (λ c. both.0 (c.0, c.1, found c.0 c.1 c.2), λ no. both.1 (λ k l f. no k l (closes k l f)))
     where
@@ -90,94 +81,18 @@ module _ {C : Type 0} (K : Kind C) (L : Lawful K.algebra) (n : ℕ) (card : ℕ 
       both = look_finds L n card sound h calm (λ k l. (_, there k l)) (λ k l. (_, back k l))
 
   -- a cost to the pivot from a higher format
-  pub first_there : (cells : List (Cell C)) (h s : ℕ) → h < s → s < n → FirstTo K n card cells h → LowLeast K.algebra card h s h (least_in K n cells s h)
+  pub first_there : (cells : Table C) (h s : ℕ) → h < s → s < n → FirstTo K n card cells h → LowLeast K.algebra card h s h (least_in K n cells s h)
   first_there cells h s l ls to =
       let e : min (min s h) h ≡ h = omega arith in
       subst (λ j. LowLeast K.algebra card j s h (least_in K n cells s h)) e (to s h ls (omega arith) (λ d. absurd (omega arith)))
 
-  pub first_all : (cells : List (Cell C)) (h : ℕ) → n ≤ h → FirstTo K n card cells h → FirstDone K n card cells
+  pub first_all : (cells : Table C) (h : ℕ) → n ≤ h → FirstTo K n card cells h → FirstDone K n card cells
   first_all cells h l to s t ls lt ne =
       let e : min (min s t) h ≡ min s t = omega arith in
       subst (λ j. LowLeast K.algebra card j s t (least_in K n cells s t)) e (to s t ls lt ne)
 
-  near_least : (s t : ℕ) (o : Option K.algebra.Value) → NoLoopBelow K.algebra card n → Least K.algebra card s t o → Near K.algebra n o
+  pub near_least : (s t : ℕ) (o : Option K.algebra.Value) → NoLoopBelow K.algebra card n → Least K.algebra card s t o → Near K.algebra n o
   near_least s t o calm least x e =
       let few = sound.small in
       L.within_more (n - 1) (suc n) x (omega arith) (omega arith)
       (least_is_near L n card sound (no_hidden_loop L n card sound calm) s t x (subst (Least K.algebra card s t) e least))
-
-  -- a cell at the level of its lower format
-  first_at : (cells : List (Cell C)) → FirstDone K n card cells → (h s t : ℕ) → s < n → t < n → (s ≡ t → ⊥) → min s t ≡ h → LowLeast K.algebra card h s t (least_in K n cells s t)
-  first_at cells done h s t ls lt ne e = subst (λ h. LowLeast K.algebra card h s t (least_in K n cells s t)) e (done s t ls lt ne)
-
-  -- the first stage's cells are off the diagonal
-  first_brought : (entry exit : List (Cell C)) (v : ℕ) (o : Option K.algebra.Value) (goal low high : ℕ) → Brought K n v o goal low high entry exit → FirstDone K n card entry → FirstDone K n card exit
-  first_brought entry exit v o goal low high b done s t ls lt ne =
-      subst (LowLeast K.algebra card (min s t) s t) (sym (b.others s t ls lt (λ e. ne (e.0 ∙ sym e.1)))) (done s t ls lt ne)
-
-  -- the second stage
-  pub second_none : (cells : List (Cell C)) (goal : ℕ) → SecondTo K n card cells goal (goal + 1)
-  second_none cells goal j l m = absurd (omega arith)
-
-  pub second_combines : (cells : List (Cell C)) (goal v : ℕ) → n * n ≤ length cells → goal < v → v < n → NoLoopBelow K.algebra card n → FirstDone K n card cells → SecondTo K n card cells goal v →
-      Combines K n v goal (goal + 1) v cells
-  second_combines cells goal v room lg lv calm done to = record {
-    room = room;
-    small = sound.small;
-    inside = (lv, omega arith, omega arith);
-    near = λ j l m ne. (
-      near_low j v j _ (omega arith) (λ k u. calm k (omega arith)) (first_at cells done j v j lv (omega arith) (λ e. absurd (omega arith)) (omega arith)),
-      near_low j j goal _ (omega arith) (λ k u. calm k (omega arith)) (to j (omega arith) m),
-    );
-  }
-
-  pub second_more : (entry exit : List (Cell C)) (goal v : ℕ) → goal < v → v < n → NoLoopBelow K.algebra card n → FirstDone K n card entry → SecondTo K n card entry goal v →
-      Brought K n v (least_in K n entry v goal) goal (goal + 1) v entry exit → FirstDone K n card exit × SecondTo K n card exit goal (v + 1)
-  second_more entry exit goal v lg lv calm done to b = (first_brought entry exit v _ goal (goal + 1) v b done, λ j l m. go j l m (cases_lt j v))
-    where
-      here : LowLeast K.algebra card v v goal (least_in K n exit v v)
-      here =
-          second_cell L card n calm v goal _ _ _ _ lg lv (first_at entry done goal v goal lv (omega arith) (λ e. absurd (omega arith)) (omega arith))
-          (λ j l m. (first_at entry done j v j lv (omega arith) (λ e. absurd (omega arith)) (omega arith), to j l m)) b.best
-
-      go : (j : ℕ) → goal < j → j < v + 1 → (j < v) ⊎ (v ≤ j) → LowLeast K.algebra card j j goal (least_in K n exit j j)
-      go j l m (inl u) = subst (LowLeast K.algebra card j j goal) (sym (b.others j j (omega arith) (omega arith) (λ e. absurd (omega (arith, e.0))))) (to j l u)
-      go j l m (inr u) = let e : v ≡ j = omega arith in subst (λ j. LowLeast K.algebra card j j goal (least_in K n exit j j)) e here
-
-  -- the third stage
-  pub third_combines : (cells : List (Cell C)) (goal v : ℕ) → n * n ≤ length cells → v < n → NoLoopBelow K.algebra card n → FirstDone K n card cells → ThirdTo K n card cells goal (v + 1) →
-      Combines K n v goal (v + 1) n cells
-  third_combines cells goal v room lv calm done to = record {
-    room = room;
-    small = sound.small;
-    inside = (lv, omega arith, omega arith);
-    near = λ j l m ne. (
-      near_low v v j _ (omega arith) (λ k u. calm k (omega arith)) (first_at cells done v v j lv m (λ e. absurd (omega arith)) (omega arith)),
-      near_least j goal _ calm (to j l m ne),
-    );
-  }
-
-  -- what is held for v at first
-  pub third_held : (cells : List (Cell C)) (goal v middle : ℕ) → goal < n → v < n → (v ≡ goal → ⊥) → ((goal < v) × (middle ≡ v)) ⊎ ((v ≤ goal) × (middle ≡ goal)) →
-      FirstDone K n card cells → SecondTo K n card cells goal (v + 1) → LowLeast K.algebra card v v goal (least_in K n cells v middle)
-  third_held cells goal v middle lg lv ne (inl (l, e)) done to = subst (λ m. LowLeast K.algebra card v v goal (least_in K n cells v m)) (sym e) (to v l (omega arith))
-  third_held cells goal v middle lg lv ne (inr (l, e)) done to =
-      subst (λ m. LowLeast K.algebra card v v goal (least_in K n cells v m)) (sym e) (first_at cells done v v goal lv lg ne (omega arith))
-
-  pub third_more : (entry exit : List (Cell C)) (o : Option K.algebra.Value) (goal v : ℕ) → v < n → (v ≡ goal → ⊥) → NoLoopBelow K.algebra card n → FirstDone K n card entry →
-      SecondTo K n card entry goal (v + 1) → ThirdTo K n card entry goal (v + 1) → LowLeast K.algebra card v v goal o →
-      Brought K n v o goal (v + 1) n entry exit → FirstDone K n card exit × SecondTo K n card exit goal v × ThirdTo K n card exit goal v
-  third_more entry exit o goal v lv ne calm done second to held b =
-      (first_brought entry exit v o goal (v + 1) n b done, before, λ j l m d. go j l m d (cases_lt v j))
-    where
-      before : SecondTo K n card exit goal v
-      before j l m = subst (LowLeast K.algebra card j j goal) (sym (b.others j j (omega arith) (omega arith) (λ e. absurd (omega (arith, e.0))))) (second j l (omega arith))
-
-      here : Least K.algebra card v goal (least_in K n exit v v)
-      here =
-          third_cell L card n calm sound v goal o _ _ _ ne held
-          (λ j l m d. (first_at entry done v v j lv m (λ e. absurd (omega arith)) (omega arith), to j (omega arith) m d)) b.best
-
-      go : (j : ℕ) → v ≤ j → j < n → (j ≡ goal → ⊥) → (v < j) ⊎ (j ≤ v) → Least K.algebra card j goal (least_in K n exit j j)
-      go j l m d (inl u) = subst (Least K.algebra card j goal) (sym (b.others j j m m (λ e. absurd (omega (arith, e.0))))) (to j (omega arith) m d)
-      go j l m d (inr u) = let e : v ≡ j = omega arith in subst (λ j. Least K.algebra card j goal (least_in K n exit j j)) e here

@@ -2,9 +2,14 @@ pub mod Follow
 pub mod Tights
 pub mod Searches
 pub mod Sheets
+pub mod Members
 pub mod Passes
 pub mod Counts
+pub mod RowSteps
+pub mod FillSteps
 pub mod PivotSteps
+pub mod GoalSteps
+pub mod Turned
 pub mod Columns
 pub mod Levels
 pub mod Loaded
@@ -12,7 +17,6 @@ pub mod Turning
 pub mod LegSteps
 pub mod Granted
 pub mod SlotSteps
-pub mod TableSteps
 pub mod RouteSteps
 pub mod RouteCall
 pub mod Answering

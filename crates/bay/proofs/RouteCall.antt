@@ -1,9 +1,7 @@
 -- What the route call is owed: the room that its first causes leave, the loop in row 0, and the granted route.
-use Rattle.std.proofs.Common.{◌≡◌, ℕ, suc, ◌+◌, add-zero, ◌*◌, ◌<◌, ◌≤◌, Bool, true, false, cond, eqb, ltb, List, [], ◌∷◌, map, length, get_or, Some, None, Option, sym, refl, ap, ◌∙◌, ⊎_elim, arith, length-append}
-use lib.ListN.{length-map}
-use Rattle.std.proofs.lemmas.List.{get_or_default, get_or-map, get_or_past}
+use Rattle.std.proofs.Common.{◌≡◌, ℕ, suc, ◌+◌, add-zero, ◌*◌, ◌<◌, ◌≤◌, Bool, true, false, cond, eqb, ltb, List, [], ◌∷◌, map, length, get_or, Some, None, Option, sym, refl, ap, ◌∙◌, subst, ⊎_elim, arith, length-append}
+use Rattle.std.proofs.lemmas.List.{get_or_default, get_or_past}
 use Rattle.std.proofs.lemmas.Bool.{cases_lt, eqb-false, ltb-false}
-use Rattle.costs.specs.declared.Cost.{Ghosts as Kind}
 use Rattle.costs.specs.Algebra.{Algebra, Lawful}
 use Rattle.registers.specs.Fault.{code, first_cause}
 use Rattle.registers.specs.declared.fault.Layer.TheVariants.{Bay}
@@ -11,22 +9,20 @@ use Rattle.walks.proofs.Cut.{distinct_few}
 use Rattle.walks.proofs.Loops.{runs_inside}
 use Rattle.walks.proofs.Runs.{to_runs}
 use Rattle.bay.proofs.Sheets.{get_or_put_row_above, length_put_row, length_row_of, row_at_put_row}
-use Rattle.bay.specs.Cells.{cards_in}
 use Rattle.bay.specs.Sheet.{most_in_row, row_at, row_bytes, row_of}
-use Rattle.registers.specs.Meaning.{most_formats}
+use Rattle.registers.specs.Meaning.{Meaning, most_formats, standing}
+use Rattle.walks.specs.Levels.{upto}
+use Rattle.walks.proofs.Restrict.{standing_inside, upto_all}
 use Rattle.bay.specs.Routing.{with_notes}
-use Rattle.bay.specs.Solved.{LoopWritten, Settled}
+use Rattle.bay.specs.Solved.{LoopWritten}
 use Rattle.walks.specs.Theorems.{Sound}
 use Rattle.walks.specs.Walk.{path, Loop}
-use Rattle.bay.specs.declared.cells.Cell.{Cell}
 use Rattle.bay.specs.Leg.{no_leg, noted}
 use Rattle.bay.specs.Plain.{ends, room_causes}
 use Rattle.bay.specs.Routes.{LoopIn, note_of}
 use Rattle.bay.specs.Buffers.{Beyond}
 use Rattle.bay.specs.declared.legs.Leg.{Leg}
-use Rattle.bay.specs.declared.legs.Note.{Note}
 use Rattle.bay.proofs.Granted.{none≢some}
-use Rattle.bay.proofs.LegSteps.{alike}
 
 -- where no cause holds there are legs, and the table and the sheets are long enough
 pub record Enough (legs n cells entries bytes : ℕ) : Type 0 where
@@ -73,9 +69,9 @@ module _ {A : Algebra} (L : Lawful A) (card : ℕ → ℕ → Option A.Value) (n
         beyond_any 0 row_bytes before now (ap length e ∙ length_put_row before 0 row (omega arith) long) (λ j h. ap (λ s. get_or s j 0) e ∙ get_or_put_row_above before 0 row (omega arith) long j (omega arith)),
       )
 
-module _ {C : Type 0} (K : Kind C) (n m : ℕ) (size : m ≡ n) (card : ℕ → ℕ → Option K.algebra.Value) (cells : List (Cell C)) (s : Settled K n card cells) where
-  pub settled_cards : cards_in K m cells ≡ card
-  settled_cards = ap (λ k. cards_in K k cells) size ∙ s.cards
+-- all of a register's cards lead between formats below its size
+pub cards_upto : {V : Type 0} (m : Meaning V) (n : ℕ) → n ≡ m.size → upto n (standing m) ≡ standing m
+cards_upto m n size = subst (λ k. upto k (standing m) ≡ standing m) (sym size) (upto_all m.size (standing m) (standing_inside m))
 
 -- legs with the notes of their rows, place by place
 pub noted_all : (row : ℕ → List ℕ) (legs now : List Leg) → length now ≡ length legs →

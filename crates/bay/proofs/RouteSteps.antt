@@ -6,12 +6,11 @@ use Rattle.std.proofs.lemmas.List.{length-append}
 use Rattle.std.proofs.lemmas.Bool.{ne_eqb}
 use Rattle.std.specs.List.{All}
 use Rattle.costs.specs.declared.Cost.{Ghosts as Kind}
-use Rattle.costs.specs.Algebra.{Algebra, Lawful}
-use Rattle.bay.specs.Cells.{Laid, cards_in}
+use Rattle.costs.specs.Algebra.{Lawful}
+use Rattle.walks.specs.Theorems.{Sound}
 use Rattle.bay.specs.Sheet.{put_row, row_at, row_of, most_in_row}
-use Rattle.bay.specs.Tracing.{Follows, Leads, Traced, to_goal}
+use Rattle.bay.specs.Tracing.{Follows, Leads, Traced}
 use Rattle.walks.specs.Walk.{Chain, FromTo, Least, Walk, WalkCosts, cost}
-use Rattle.bay.specs.declared.cells.Cell.{Cell}
 use Rattle.registers.specs.Meaning.{most_formats}
 use Rattle.bay.proofs.Follow.{follows_agree, follows_ends}
 use Rattle.bay.proofs.Sheets.{chain_leads, chain_of_row, follows_some, leads_few, length_row_of}
@@ -33,10 +32,7 @@ nil_agrees gs m ps bs cs ds e _ = absurd (omega (arith, ap length e, length-appe
 agrees_nil : (fs : List ℕ) → Agree fs []
 agrees_nil fs m ps bs cs ds _ e = absurd (omega (arith, ap length e, length-append cs (m ∷ ds)))
 
-module _ {C : Type 0} (K : Kind C) (L : Lawful K.algebra) (n : ℕ) (table : List (Cell C)) (laid : Laid K n table) where
-  abbrev card : ℕ → ℕ → Option K.algebra.Value
-  card = cards_in K n table
-
+module _ {C : Type 0} (K : Kind C) (L : Lawful K.algebra) (n : ℕ) (card : ℕ → ℕ → Option K.algebra.Value) (sound : Sound K.algebra n card) where
   -- where no walk leads, nothing is to be written
   blank_done : (next : List ℕ) (q : LegSlot C) → Blank K q → ((fs : List ℕ) → FromTo q.leg.from q.leg.to fs → Walk K.algebra card fs → ⊥) → SlotDone K card next q
   blank_done next q b none = record {
@@ -50,9 +46,10 @@ module _ {C : Type 0} (K : Kind C) (L : Lawful K.algebra) (n : ℕ) (table : Lis
       MatchOption o ((x : K.algebra.Value) → WalkCosts K.algebra card v goal x → ⊥)
       (λ x. (fs : List ℕ) × Chain K.algebra card fs × (cost K.algebra card fs ≡ x) × Follows next goal v fs)
 
-  module _ (next : List ℕ) (p : Slots C) (k : ℕ) (leg : Leg) (is : leg ≡ get_or p.legs k no_leg) (traced : Traced K n table leg.to next leg.from) where
+  module _ (next : List ℕ) (p : Slots C) (k : ℕ) (leg : Leg) (is : leg ≡ get_or p.legs k no_leg)
+      (dist : ℕ → Option K.algebra.Value) (traced : Traced K.algebra n card dist leg.to next leg.from) where
     -- the leg has no chain, and its leg_slot is left as it is
-    pub leg_none : Blank K (leg_slot p k) → None ≡ to_goal K n table leg.to leg.from → LegDone K card next k p p
+    pub leg_none : Blank K (leg_slot p k) → None ≡ dist leg.from → LegDone K card next k p p
     leg_none b e =
         let never : TracedBy next leg.to leg.from None = subst (TracedBy next leg.to leg.from) (sym e) traced in
         record {
@@ -62,15 +59,15 @@ module _ {C : Type 0} (K : Kind C) (L : Lawful K.algebra) (n : ℕ) (table : Lis
               (subst (λ l. (fs : List ℕ) → FromTo l.from l.to fs → Walk K.algebra card fs → ⊥) is (λ fs ends w. never _ (fs, ends, w, refl)));
         }
 
-    module _ (few : n ≤ most_formats) (inside : leg.to < n) (x : C) (e : Some (K.value x) ≡ to_goal K n table leg.to leg.from) where
+    module _ (few : n ≤ most_formats) (inside : leg.to < n) (x : C) (e : Some (K.value x) ≡ dist leg.from) where
       traced_some : TracedBy next leg.to leg.from (Some (K.value x))
       traced_some = subst (TracedBy next leg.to leg.from) (sym e) traced
 
       pub leg_leads : Leads next leg.to leg.from
-      leg_leads = let (fs, chain, costs, follows) = traced_some in chain_leads L n card laid.sound few next leg.to leg.from fs inside chain follows
+      leg_leads = let (fs, chain, costs, follows) = traced_some in chain_leads L n card sound few next leg.to leg.from fs inside chain follows
 
       -- the row, cost and note of the leg are written
-      pub leg_written : Least K.algebra card leg.from leg.to (to_goal K n table leg.to leg.from) → k < length p.legs → SlotsFit p → (count : ℕ) (legs : List Leg) (chains : List ℕ) →
+      pub leg_written : Least K.algebra card leg.from leg.to (dist leg.from) → k < length p.legs → SlotsFit p → (count : ℕ) (legs : List Leg) (chains : List ℕ) →
           ((fs : List ℕ) → Follows next leg.to leg.from fs → (count ≡ length fs) × (chains ≡ put_row p.chains k (row_of fs))) →
           legs ≡ set p.legs k (noted (ChainOf count) (get_or p.legs k no_leg)) → LegDone K card next k p (slots legs (set p.costs k x) chains)
       leg_written least here room count legs chains told noted_is =

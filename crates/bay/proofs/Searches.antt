@@ -6,17 +6,16 @@ use Rattle.std.specs.Coded.{le_prop}
 use Rattle.std.proofs.Math.Seq.{get_or-append_seam}
 use Rattle.std.proofs.lemmas.List.{get_or-set_same, get_or-set_other, get_or_append_left, length-append, length-set, length-replicate}
 use Rattle.std.proofs.lemmas.Bool.{cases_eq, cases_lt, cases_Bool, both_ways}
-use Rattle.costs.specs.declared.Cost.{Ghosts as Kind}
 use Rattle.costs.specs.Algebra.{Algebra, Lawful}
-use Rattle.walks.specs.Walk.{path, Below, Absent, Distinct, cost}
-use Rattle.bay.specs.Cells.{cards_in, least_in}
+use Rattle.walks.specs.Walk.{Below, Absent, Distinct, cost}
 use Rattle.registers.specs.Meaning.{most_formats}
+use Rattle.bay.specs.FormatSets.{holds}
+use Rattle.bay.specs.declared.sets.FormatSet.{FormatSet}
 use Rattle.bay.specs.Tracing.{Clear, Ticked, Rises, SearchState, Lined, Wider, to_goal, GoalReady, TightIn, Scanned, Onward, Searched, Exhausted, LeadsToGoal, Covered, TickedFrom, Traced}
-use Rattle.bay.specs.declared.cells.Cell.{Cell}
 use Rattle.walks.proofs.Fold.{below_join}
 use Rattle.walks.proofs.Cut.{distinct_few, distinct_end}
 use Rattle.bay.proofs.Follow.{absent_free, ticked_kept, none_ticked, grown_start, grown_more, closed_never, follows_same}
-use Rattle.bay.proofs.Tights.{to_goal_goal, to_goal_inside, to_goal_least}
+use Rattle.bay.proofs.Tights.{to_goal_inside, to_goal_least}
 
 ticked_push : (ticked : List Bool) (fs : List ℕ) (v : ℕ) → Ticked ticked fs → get_or ticked v false ≡ true → Ticked ticked (fs ++ v ∷ [])
 ticked_push ticked [] v k e = (e, tt)
@@ -82,6 +81,9 @@ wider_more before marks formats longer v l w = record {
   front = λ k b. get_or_append_left longer (v ∷ []) 0 k (omega (arith, w.rises)) ∙ w.front k b;
 }
 
+pub wider_none : (marks : List Bool) (formats : List ℕ) → Wider marks marks formats formats
+wider_none marks formats = record { rises = omega arith; marks = λ v e. e; front = λ k l. refl }
+
 pub wider_on : (marks later last : List Bool) (formats longer longest : List ℕ) → Wider marks later formats longer → Wider later last longer longest →
     Wider marks last formats longest
 wider_on marks later last formats longer longest w u = record {
@@ -94,21 +96,23 @@ wider_on marks later last formats longer longest w u = record {
 abbrev pub pushed : SearchState → ℕ → ℕ → SearchState
 pushed r w place = record { formats = r.formats ++ w ∷ []; origins = r.origins ++ place ∷ []; marks = set r.marks w true }
 
-module _ {C : Type 0} (K : Kind C) (n : ℕ) (cells : List (Cell C)) (goal : ℕ) where
+module _ (A : Algebra) (n : ℕ) (card : ℕ → ℕ → Option A.Value) (dist : ℕ → Option A.Value) (goal : ℕ) where
   -- what holds of a scan from v with the formats below k looked at, where it began with `before`
-  abbrev pub Turn : List Bool → SearchState → ℕ → ℕ → SearchState → Type 0
-  Turn ticked before v k r = Searched K n cells goal ticked r × Wider before.marks r.marks before.formats r.formats × Scanned K n cells goal r.marks v k
+  abbrev pub Turn : List Bool → SearchState → ℕ → FormatSet → SearchState → Type 0
+  Turn ticked before v left r =
+      Searched A n card dist goal ticked r × Wider before.marks r.marks before.formats r.formats × ((w : ℕ) → w < most_formats → holds left w ≡ true → w < n) ×
+      ((w : ℕ) → w < n → TightIn A n card dist goal v w → (get_or r.marks w false ≡ true) ⊎ (holds left w ≡ true))
 
   -- what holds while a way is laid, from its end: the format at the place comes next, and goes on to `to`
   pub record Laying (first : List Bool) (r : SearchState) (place to : ℕ) (ticked : List Bool) (next : List ℕ) : Type 0 where
-    pub leads : LeadsToGoal K n cells goal ticked next
+    pub leads : LeadsToGoal A n card dist goal ticked next
     pub rises : Rises first ticked
     pub inside : place < length r.formats
     pub free : (k : ℕ) → k ≤ place → get_or ticked (get_or r.formats k 0) false ≡ false
-    pub onward : Onward K n cells goal ticked (get_or r.formats place 0) to
+    pub onward : Onward A n card dist goal ticked (get_or r.formats place 0) to
 
 -- what an aim is known for, whichever way that was shown
-module _ {C : Type 0} (K : Kind C) (n : ℕ) (cells : List (Cell C)) (goal : ℕ) (ready : ∥ GoalReady K n cells goal ∥₁) where
+module _ (A : Algebra) (n : ℕ) (card : ℕ → ℕ → Option A.Value) (dist : ℕ → Option A.Value) (goal : ℕ) (ready : ∥ GoalReady A n card dist goal ∥₁) where
   pub aim_few : n ≤ most_formats
   aim_few = ∥∥₁_elim ready le_prop (λ r. r.few)
 
@@ -119,12 +123,12 @@ module _ {C : Type 0} (K : Kind C) (n : ℕ) (cells : List (Cell C)) (goal : ℕ
 pub start_marked : (v : ℕ) → v < most_formats → get_or (set (replicate most_formats false) v true) v false ≡ true
 start_marked v l = let long : length (replicate most_formats false) ≡ most_formats = length-replicate most_formats false in get_or-set_same (replicate most_formats false) v true false (omega (arith, l, long))
 
-module _ {C : Type 0} (K : Kind C) (L : Lawful K.algebra) (n : ℕ) (cells : List (Cell C)) (goal : ℕ) where
+module _ {A : Algebra} (L : Lawful A) (n : ℕ) (card : ℕ → ℕ → Option A.Value) (dist : ℕ → Option A.Value) (goal : ℕ) where
   abbrev Seeks : List Bool → SearchState → Type 0
-  Seeks = Searched K n cells goal
+  Seeks = Searched A n card dist goal
 
   abbrev Leads : ℕ → ℕ → Type 0
-  Leads = TightIn K n cells goal
+  Leads = TightIn A n card dist goal
 
   pub searched_at : (ticked : List Bool) (r : SearchState) → Seeks ticked r → (k : ℕ) → k < length r.formats →
       (get_or r.formats k 0 < n) × (get_or r.marks (get_or r.formats k 0) false ≡ true)
@@ -136,10 +140,10 @@ module _ {C : Type 0} (K : Kind C) (L : Lawful K.algebra) (n : ℕ) (cells : Lis
 
   -- the places before one are scanned, and now that place too
   pub scans_on : (r later : SearchState) (place : ℕ) → place < length r.formats → Wider r.marks later.marks r.formats later.formats →
-      ((k : ℕ) → k < place → Scanned K n cells goal r.marks (get_or r.formats k 0) n) → Scanned K n cells goal later.marks (get_or r.formats place 0) n →
-      (k : ℕ) → k < place + 1 → Scanned K n cells goal later.marks (get_or later.formats k 0) n
+      ((k : ℕ) → k < place → Scanned A n card dist goal r.marks (get_or r.formats k 0) n) → Scanned A n card dist goal later.marks (get_or r.formats place 0) n →
+      (k : ℕ) → k < place + 1 → Scanned A n card dist goal later.marks (get_or later.formats k 0) n
   scans_on r later place l wider done here =
-      below_more (λ k. Scanned K n cells goal later.marks (get_or later.formats k 0) n) place
+      below_more (λ k. Scanned A n card dist goal later.marks (get_or later.formats k 0) n) place
       (λ k b w c h. wider.marks w (done k b w c (subst (λ v. Leads v w) (wider.front k (omega arith)) h)))
       (λ w c h. here w c (subst (λ v. Leads v w) (wider.front place l) h))
 
@@ -201,47 +205,68 @@ module _ {C : Type 0} (K : Kind C) (L : Lawful K.algebra) (n : ℕ) (cells : Lis
               rw (o, f, old place b) (omega arith, tight)
 
     -- one turn of a scan, where w joins and where it does not
-    module _ (ticked : List Bool) (before : SearchState) (v w : ℕ) (r : SearchState) (turn : Turn K n cells goal ticked before v w r) (r' : SearchState) where
+    module _ (ticked : List Bool) (before : SearchState) (v w : ℕ) (r : SearchState) (left : FormatSet) (turn : Turn A n card dist goal ticked before v left r) (r' : SearchState)
+        (left' : FormatSet) (gone : holds left' w ≡ false) (others : (f : ℕ) → f < most_formats → (f ≡ w → ⊥) → holds left' f ≡ holds left f) where
+      within : (f : ℕ) → f < most_formats → holds left' f ≡ true → f < n
+      within f l h = elim (cases_eq f w) [
+        | inl e ↦ absurd (both_ways (holds left' f) (subst (λ f. holds left' f ≡ false) (sym e) gone) h)
+        | inr ne ↦ turn.2 f l (sym (others f l ne) ∙ h)
+      ]
+
       pub turn_joins : (place : ℕ) → w < n → get_or r.marks w false ≡ false → get_or ticked w false ≡ false → place < length before.formats →
-          v ≡ get_or before.formats place 0 → Leads v w → r' ≡ pushed r w place → Turn K n cells goal ticked before v (w + 1) r'
+          v ≡ get_or before.formats place 0 → Leads v w → r' ≡ pushed r w place → Turn A n card dist goal ticked before v left' r'
       turn_joins place l free off b e tight p =
-          let (s, wider, scanned) = turn in
+          let (s, wider, inside, scanned) = turn in
           let at : v ≡ get_or r.formats place 0 = e ∙ sym (wider.front place b) in
           let room : w < length r.marks = omega (arith, few, s.long_marks) in
           rw p (
             searched_more ticked r s w l free place (omega (arith, wider.rises)) off (rw at at tight),
             wider_more before.marks r.marks before.formats r.formats w room wider,
-            below_more _ w (λ k c h. still_ticked r.marks w k room (scanned k c h)) (λ _. get_or-set_same r.marks w true false room),
+            within,
+            λ k c h. elim (cases_eq k w) [
+              | inl e ↦ inl (subst (λ k. get_or (set r.marks w true) k false ≡ true) (sym e) (get_or-set_same r.marks w true false room))
+              | inr ne ↦ elim (scanned k c h) [ inl m ↦ inl (still_ticked r.marks w k room m) | inr i ↦ inr (others k (omega (arith, c, few)) ne ∙ i) ]
+            ],
           )
 
-      pub turn_passes : (Leads v w → get_or r.marks w false ≡ true) → r' ≡ r → Turn K n cells goal ticked before v (w + 1) r'
-      turn_passes h p = let (s, wider, scanned) = turn in rw p (s, wider, below_more _ w scanned h)
+      pub turn_passes : (Leads v w → get_or r.marks w false ≡ true) → r' ≡ r → Turn A n card dist goal ticked before v left' r'
+      turn_passes h p =
+          let (s, wider, inside, scanned) = turn in
+          rw p (
+            s,
+            wider,
+            within,
+            λ k c t. elim (cases_eq k w) [
+              | inl e ↦ inl (subst (λ k. get_or r.marks k false ≡ true) (sym e) (h (subst (λ k. Leads v k) e t)))
+              | inr ne ↦ elim (scanned k c t) [ inl m ↦ inl m | inr i ↦ inr (others k (omega (arith, c, few)) ne ∙ i) ]
+            ],
+          )
 
-    pub tended_start : (ticked : List Bool) (next : List ℕ) → goal < n → length ticked ≡ most_formats → length next ≡ most_formats → Clear ticked →
-        LeadsToGoal K n cells goal (set ticked goal true) next
-    tended_start ticked next inside t x clear = record {
-      grown = grown_start K.algebra (cards_in K n cells) (to_goal K n cells goal) goal ticked next (to_goal_goal K L n cells goal) clear;
+    pub tended_start : (ticked : List Bool) (next : List ℕ) → goal < n → to_goal A n card dist goal goal ≡ Some A.unit → length ticked ≡ most_formats → length next ≡ most_formats → Clear ticked →
+        LeadsToGoal A n card dist goal (set ticked goal true) next
+    tended_start ticked next inside own t x clear = record {
+      grown = grown_start A card (to_goal A n card dist goal) goal ticked next own clear;
       rooted = get_or-set_same ticked goal true false (omega (arith, inside, few));
       long_ticked = length-set ticked goal true ∙ t;
       long_next = x;
     }
 
-    tended_more : (ticked : List Bool) (next : List ℕ) → LeadsToGoal K n cells goal ticked next → (v w : ℕ) → v < n → get_or ticked v false ≡ false →
-        get_or ticked w false ≡ true → Leads v w → LeadsToGoal K n cells goal (set ticked v true) (set next v w)
+    tended_more : (ticked : List Bool) (next : List ℕ) → LeadsToGoal A n card dist goal ticked next → (v w : ℕ) → v < n → get_or ticked v false ≡ false →
+        get_or ticked w false ≡ true → Leads v w → LeadsToGoal A n card dist goal (set ticked v true) (set next v w)
     tended_more ticked next t v w l free i tight =
         let b : v < length ticked = omega (arith, few, t.long_ticked) in
         record {
-          grown = grown_more K.algebra (cards_in K n cells) (to_goal K n cells goal) goal ticked next t.grown v w i free b (omega (arith, few, t.long_next)) tight;
+          grown = grown_more A card (to_goal A n card dist goal) goal ticked next t.grown v w i free b (omega (arith, few, t.long_next)) tight;
           rooted = still_ticked ticked v goal b t.rooted;
           long_ticked = length-set ticked v true ∙ t.long_ticked;
           long_next = length-set next v w ∙ t.long_next;
         }
 
-    pub laying_start : (r : SearchState) (place to : ℕ) (ticked : List Bool) (next : List ℕ) → Seeks ticked r → LeadsToGoal K n cells goal ticked next →
-        place < length r.formats → Onward K n cells goal ticked (get_or r.formats place 0) to → Laying K n cells goal ticked r place to ticked next
+    pub laying_start : (r : SearchState) (place to : ℕ) (ticked : List Bool) (next : List ℕ) → Seeks ticked r → LeadsToGoal A n card dist goal ticked next →
+        place < length r.formats → Onward A n card dist goal ticked (get_or r.formats place 0) to → Laying A n card dist goal ticked r place to ticked next
     laying_start r place to ticked next s t l o = record { leads = t; rises = λ v e. e; inside = l; free = λ k b. s.free k (omega arith); onward = o }
 
-    module _ (first : List Bool) (r : SearchState) (s : Seeks first r) (place to : ℕ) (ticked : List Bool) (next : List ℕ) (lay : Laying K n cells goal first r place to ticked next) where
+    module _ (first : List Bool) (r : SearchState) (s : Seeks first r) (place to : ℕ) (ticked : List Bool) (next : List ℕ) (lay : Laying A n card dist goal first r place to ticked next) where
       abbrev pub v : ℕ
       v = get_or r.formats place 0
 
@@ -254,7 +279,7 @@ module _ {C : Type 0} (K : Kind C) (L : Lawful K.algebra) (n : ℕ) (cells : Lis
       room : v < length ticked
       room = omega (arith, few, l, lay.leads.long_ticked)
 
-      pub laid_tended : LeadsToGoal K n cells goal (set ticked v true) (set next v to)
+      pub laid_tended : LeadsToGoal A n card dist goal (set ticked v true) (set next v to)
       laid_tended = tended_more ticked next lay.leads v to l (lay.free place (omega arith)) lay.onward.1 lay.onward.2
 
       pub laid_rises : Rises first (set ticked v true)
@@ -268,7 +293,7 @@ module _ {C : Type 0} (K : Kind C) (L : Lawful K.algebra) (n : ℕ) (cells : Lis
       pub laid_origin : (0 < place) → get_or r.origins place 0 < place
       laid_origin z = (s.tight place z lay.inside).0
 
-      pub laid_more : 0 < place → Laying K n cells goal first r (get_or r.origins place 0) v (set ticked v true) (set next v to)
+      pub laid_more : 0 < place → Laying A n card dist goal first r (get_or r.origins place 0) v (set ticked v true) (set next v to)
       laid_more z =
           let (o, t) = s.tight place z lay.inside in
           record {
@@ -280,7 +305,7 @@ module _ {C : Type 0} (K : Kind C) (L : Lawful K.algebra) (n : ℕ) (cells : Lis
           }
 
   -- the marks of a search leave out the goal, which has a tick
-  module _ (ready : GoalReady K n cells goal) (ticked : List Bool) (r : SearchState) (s : Seeks ticked r) (rooted : get_or ticked goal false ≡ true) where
+  module _ (ready : GoalReady A n card dist goal) (ticked : List Bool) (r : SearchState) (s : Seeks ticked r) (rooted : get_or ticked goal false ≡ true) where
     goal_free : get_or r.marks goal false ≡ false
     goal_free = go (cases_Bool (get_or r.marks goal false))
       where
@@ -288,29 +313,32 @@ module _ {C : Type 0} (K : Kind C) (L : Lawful K.algebra) (n : ℕ) (cells : Lis
         go (inl e) = let (k, b, f) = s.lined.all goal e in absurd (both_ways _ (s.free k b) (rw f rooted))
         go (inr e) = e
 
-    exhausted : Exhausted K n cells goal r → (v : ℕ) → get_or r.marks v false ≡ true → (x : K.algebra.Value) → to_goal K n cells goal v ≡ Some x → ⊥
-    exhausted done = closed_never L n (cards_in K n cells) ready.laid.sound ready.calm goal (to_goal K n cells goal)
-        (to_goal_least K L n cells goal ready) r.marks goal_free
+    exhausted : Exhausted A n card dist goal r → (v : ℕ) → get_or r.marks v false ≡ true → (x : A.Value) → to_goal A n card dist goal v ≡ Some x → ⊥
+    exhausted done = closed_never L n card ready.sound ready.calm goal (to_goal A n card dist goal)
+        (to_goal_least L n card dist goal ready) r.marks goal_free
         (λ v w m i tight. let (k, b, e) = s.lined.all v i in done k b w m (rw e tight))
 
-  pub exhausted_never : ∥ GoalReady K n cells goal ∥₁ → (ticked : List Bool) (r : SearchState) → Seeks ticked r → get_or ticked goal false ≡ true →
-      Exhausted K n cells goal r → (v : ℕ) → get_or r.marks v false ≡ true → (x : K.algebra.Value) → to_goal K n cells goal v ≡ Some x → ⊥
+  pub exhausted_never : ∥ GoalReady A n card dist goal ∥₁ → (ticked : List Bool) (r : SearchState) → Seeks ticked r → get_or ticked goal false ≡ true →
+      Exhausted A n card dist goal r → (v : ℕ) → get_or r.marks v false ≡ true → (x : A.Value) → to_goal A n card dist goal v ≡ Some x → ⊥
   exhausted_never ready ticked r s rooted done v i x e = ∥∥₁_elim ready (λ a b. absurd a) (λ q. exhausted q ticked r s rooted done v i x e)
 
-  pub served_on : (ticked later : List Bool) (v : ℕ) → Rises ticked later → Covered K n cells goal ticked v → Covered K n cells goal later v
+  pub served_on : (ticked later : List Bool) (v : ℕ) → Rises ticked later → Covered A n card dist goal ticked v → Covered A n card dist goal later v
   served_on ticked later v rises (inl i) = inl (rises v i)
   served_on ticked later v rises (inr f) = inr f
 
-  pub served_traced : (ready : GoalReady K n cells goal) (ticked : List Bool) (next : List ℕ) → LeadsToGoal K n cells goal ticked next → (v : ℕ) →
-      Covered K n cells goal ticked v → Traced K n cells goal next v
-  served_traced ready ticked next t v (inl i) = let led = t.grown v i in rw led.costs (led.formats, (led.walks, led.distinct), refl, led.follows)
-  served_traced ready ticked next t v (inr f) = go (to_goal K n cells goal v) refl
+  pub served_traced : (ready : GoalReady A n card dist goal) (ticked : List Bool) (next : List ℕ) → LeadsToGoal A n card dist goal ticked next → (v : ℕ) → v < n →
+      Covered A n card dist goal ticked v → Traced A n card dist goal next v
+  served_traced ready ticked next t v l (inl i) =
+      let led = t.grown v i in
+      let d : dist v ≡ Some (cost A card led.formats) = sym (to_goal_inside L n card dist goal v l) ∙ led.costs in
+      rw d (led.formats, (led.walks, led.distinct), refl, led.follows)
+  served_traced ready ticked next t v l (inr f) = go (dist v) refl
     where
-      go : (o : Option K.algebra.Value) → to_goal K n cells goal v ≡ o → Traced K n cells goal next v
-      go None e = rw e (rw e at (to_goal_least K L n cells goal ready v))
-      go (Some x) e = absurd (f x e)
+      go : (o : Option A.Value) → dist v ≡ o → Traced A n card dist goal next v
+      go None e = rw e (rw e at (ready.least v l))
+      go (Some x) e = absurd (f x (to_goal_inside L n card dist goal v l ∙ e))
 
-  pub served_ticked : (ticked : List Bool) (next : List ℕ) → LeadsToGoal K n cells goal ticked next → (v : ℕ) →
-      Covered K n cells goal ticked v → TickedFrom K n cells goal ticked next v
-  served_ticked ticked next t v (inl i) x e fs h = let led = t.grown v i in subst (Ticked ticked) (follows_same next goal v led.formats fs led.follows h) led.inside
-  served_ticked ticked next t v (inr f) x e fs h = absurd (f x e)
+  pub served_ticked : (ticked : List Bool) (next : List ℕ) → LeadsToGoal A n card dist goal ticked next → (v : ℕ) → v < n →
+      Covered A n card dist goal ticked v → TickedFrom A n card dist goal ticked next v
+  served_ticked ticked next t v l (inl i) x e fs h = let led = t.grown v i in subst (Ticked ticked) (follows_same next goal v led.formats fs led.follows h) led.inside
+  served_ticked ticked next t v l (inr f) x e fs h = absurd (f x (to_goal_inside L n card dist goal v l ∙ e))

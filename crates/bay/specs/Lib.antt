@@ -12,11 +12,11 @@ pub mod Calls
 pub mod RowsPassed
 pub mod Runs
 pub mod Reversal
+pub mod FormatSets
 pub mod Cells
 pub mod Tracing
 pub mod GoalTables
 pub mod Eliminated
-pub mod Pivots
 pub mod Solved
 pub mod LegSlots
 pub mod RouteWriters

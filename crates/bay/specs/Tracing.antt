@@ -1,13 +1,11 @@
 -- Least-cost chains that are read from a table of next formats, and the searches over tight cards that the table is made by.
 -- `ticked` says from which formats `next` leads to the goal: they are a tree, with the goal at its root.
-use Rattle.std.specs.Prelude.{◌≡◌, ℕ, ◌<◌, ◌≤◌, Bool, true, false, cond, List, [], ◌∷◌, length, Some, None, Option, MatchOption, ◌==◌, ◌≢◌, nat_lt, ◌⊎◌, slice_index, slice_index_or}
-use Rattle.costs.specs.declared.Cost.{Ghosts as Kind}
+use Rattle.std.specs.Prelude.{◌≡◌, ℕ, ◌<◌, ◌≤◌, Bool, true, false, cond, List, [], ◌∷◌, length, Some, None, Option, MatchOption, ◌≢◌, nat_lt, ◌⊎◌, slice_index, slice_index_or}
 use Rattle.costs.specs.Algebra.{Algebra}
 use Rattle.registers.specs.Meaning.{most_formats}
 use Rattle.walks.specs.Walk.{Below, Distinct, Walk, cost, Chain, WalkCosts, Least, Gains, Tight}
+use Rattle.walks.specs.Theorems.{Sound}
 use Rattle.bay.specs.Sheet.{most_in_row}
-use Rattle.bay.specs.Cells.{cards_in, least_in, Laid}
-use Rattle.bay.specs.declared.cells.Cell.{Cell}
 
 -- the formats of the list are those met from v on by `next`, up to t
 abbrev pub Follows : List ℕ → ℕ → ℕ → List ℕ → Type 0
@@ -68,22 +66,23 @@ pub record Wider (before after : List Bool) (formats longer : List ℕ) : Type 0
   pub marks : Rises before after
   pub front : (k : ℕ) → k < length formats → slice_index longer k ≡ slice_index formats k
 
-module _ {C : Type 0} (K : Kind C) (n : ℕ) (cells : List (Cell C)) (goal : ℕ) where
-  -- the least cost from v to the goal, the unit at the goal itself: a format's diagonal cell has its own
-  abbrev pub to_goal : ℕ → Option K.algebra.Value
-  to_goal v = cond (v == goal) (Some K.algebra.unit) (cond (nat_lt v n) (least_in K n cells v v) None)
+-- over the cards of n formats, with d v for the least cost from v to the goal
+module _ (A : Algebra) (n : ℕ) (card : ℕ → ℕ → Option A.Value) (d : ℕ → Option A.Value) (goal : ℕ) where
+  -- the least cost from v to the goal, which no format from n on has
+  abbrev pub to_goal : ℕ → Option A.Value
+  to_goal v = cond (nat_lt v n) (d v) None
 
-  -- the diagonal of the table has the least costs to the goal, and no closed walk gains
+  -- d is the least cost to the goal, and no closed walk gains
   pub record GoalReady : Type 0 where
-    pub laid : Laid K n cells
+    pub sound : Sound A n card
     pub few : n ≤ most_formats
     pub inside : goal < n
-    pub calm : Gains K.algebra (cards_in K n cells) → ⊥
-    pub least : (v : ℕ) → v < n → (v ≢ goal) → Least K.algebra (cards_in K n cells) v goal (least_in K n cells v v)
+    pub calm : Gains A card → ⊥
+    pub least : (v : ℕ) → v < n → Least A card v goal (d v)
 
   -- the card from v to w is tight on the way to the goal
   abbrev pub TightIn : ℕ → ℕ → Type 0
-  TightIn v w = Tight K.algebra (cards_in K n cells) to_goal v w
+  TightIn v w = Tight A card to_goal v w
 
   -- each format below k with a tight card from v has a mark
   abbrev pub Scanned : List Bool → ℕ → ℕ → Type 0
@@ -108,23 +107,22 @@ module _ {C : Type 0} (K : Kind C) (n : ℕ) (cells : List (Cell C)) (goal : ℕ
 
   -- `next` leads to the goal from each format with a tick, and the goal has one
   pub record LeadsToGoal (ticked : List Bool) (next : List ℕ) : Type 0 where
-    pub grown : Grown K.algebra (cards_in K n cells) to_goal goal ticked next
+    pub grown : Grown A card to_goal goal ticked next
     pub rooted : slice_index_or ticked goal false ≡ true
     pub long_ticked : length ticked ≡ most_formats
     pub long_next : length next ≡ most_formats
 
   -- v has a tick, or the table has no cost from it to the goal
   abbrev pub Covered : List Bool → ℕ → Type 0
-  Covered ticked v = (slice_index_or ticked v false ≡ true) ⊎ ((x : K.algebra.Value) → to_goal v ≡ Some x → ⊥)
+  Covered ticked v = (slice_index_or ticked v false ≡ true) ⊎ ((x : A.Value) → to_goal v ≡ Some x → ⊥)
 
   -- `next` leads from v to the goal along a chain of the least cost, or no walk leads there
   abbrev pub Traced : List ℕ → ℕ → Type 0
   Traced next v =
-      let card : ℕ → ℕ → Option K.algebra.Value = cards_in K n cells in
-      MatchOption (to_goal v) ((x : K.algebra.Value) → WalkCosts K.algebra card v goal x → ⊥)
-      (λ x. (fs : List ℕ) × Chain K.algebra card fs × (cost K.algebra card fs ≡ x) × Follows next goal v fs)
+      MatchOption (d v) ((x : A.Value) → WalkCosts A card v goal x → ⊥)
+      (λ x. (fs : List ℕ) × Chain A card fs × (cost A card fs ≡ x) × Follows next goal v fs)
 
   -- each format that `next` passes on its way from v to the goal has a tick, where a walk leads there
   abbrev pub TickedFrom : List Bool → List ℕ → ℕ → Type 0
   TickedFrom ticked next v =
-      (x : K.algebra.Value) → to_goal v ≡ Some x → (fs : List ℕ) → Follows next goal v fs → Ticked ticked fs
+      (x : A.Value) → d v ≡ Some x → (fs : List ℕ) → Follows next goal v fs → Ticked ticked fs

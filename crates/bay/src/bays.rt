@@ -14,6 +14,9 @@ use crate::fault::BayFault;
 use crate::judge::{judge_room, judge_run};
 use crate::legs::{Leg, Legs, MOST_LEGS, Note};
 use crate::negative_cycle::write_loop;
+use crate::routes::write_routes;
+use crate::sets::FormatSet;
+use crate::substitution::solve_to;
 use crate::survey::solve;
 use crate::writing::RouteWriter;
 use costs::Cost;
@@ -161,9 +164,19 @@ impl<R: Register> Bay<R> {
         self.judge_route(table, costs, chains)?;
         let n = self.register.size();
         let mut ticks = [false; MOST_FORMATS];
-        match solve(&self.register, table) {
+        let mut there = [FormatSet::none(); MOST_FORMATS];
+        let mut standing = [FormatSet::none(); MOST_FORMATS];
+        match solve(&self.register, table, &mut there, &mut standing) {
             Found::LoopAt(h) => {
-                write_loop(&self.register, table, h, &mut ticks, chains);
+                write_loop(
+                    &self.register,
+                    table,
+                    &mut there,
+                    &mut standing,
+                    h,
+                    &mut ticks,
+                    chains,
+                );
                 self.legs.open_all();
                 Err(BayFault::Loop)
             }
@@ -174,7 +187,18 @@ impl<R: Register> Bay<R> {
                     costs,
                     chains,
                 };
-                writer.write_routes(n, table, &mut ticks);
+                let goals = writer.goals();
+                solve_to(table, &mut there, n, goals);
+                write_routes(
+                    &mut writer,
+                    &self.register,
+                    n,
+                    table,
+                    &there,
+                    &standing,
+                    goals,
+                    &mut ticks,
+                );
                 Ok(routed)
             }
         }

@@ -1,53 +1,64 @@
 // The cells of a working table.
-ghost use Rattle.std.specs.Prelude.{◌≡◌, ◌*◌, ◌<◌, ◌≤◌, length};
-ghost use Rattle.costs.specs.Algebra.{reach};
+ghost use Rattle.std.specs.Prelude.{◌≡◌, ◌*◌, ◌<◌, ◌≤◌, length, slice_set};
 ghost use Rattle.std.specs.Option.{option_map};
-ghost use Rattle.bay.specs.Cells.{cell, empty};
-ghost use Rattle.bay.specs.Tracing.{to_goal};
+ghost use Rattle.registers.specs.Meaning.{most_formats};
+ghost use Rattle.bay.specs.Cells.{least_in, meaning_at, tabled};
 
+use crate::sets::FormatSet;
 use costs::Cost;
+use registers::MOST_FORMATS;
 
-// One cell of a working table, for two formats: the card between them, and the least cost from the first to the second that
-// was found so far. Of one format with itself: the least cost from it to a goal.
+// One cell of a working table, for two formats: the least cost from the first to the second that was found so far. Which cells have
+// one is kept beside the table, so that no cost has to stand for none.
 #[derive(Clone, Copy, Debug, PartialEq, Eq)]
 pub struct Cell<C> {
-    pub card: Option<C>,
-    pub least: Option<C>,
+    pub cost: C,
 }
 
-impl<C> Cell<C> {
-    // The cell that holds nothing.
+impl<C: Cost> Cell<C> {
+    // A cell to make a table of; it does not matter what it holds.
     pub fn empty() -> Cell<C>
-        ensures { result ≡ empty }
+        ensures { C.value result.cost ≡ C.algebra.unit }
     {
-        Cell {
-            card: None,
-            least: None,
-        }
+        Cell { cost: C::unit() }
     }
 }
 
-// The cell of `s` and `t`. The table is a plain slice, whose holder has room for more cells: so `n` is passed beside it.
-#[tactic(auto, using(crate::proofs::Passes::place_lt))]
-pub(crate) fn cell_at<C: Cost>(cells: &[Cell<C>], n: usize, s: usize, t: usize) -> Cell<C>
-    requires room { n * n ≤ length cells.now }
-    requires small { n ≤ reach }
-    requires inside { (s < n) × (t < n) }
-    ensures { result ≡ cell n cells.now s t }
+// The cost at a place of the table.
+#[inline(always)]
+pub(crate) fn cost_in<C: Cost>(cells: &[Cell<C>], place: usize) -> C
+    requires { place < length cells.now }
+    ensures { C.value result ≡ meaning_at C.Cost cells.now place }
 {
-    cells[s * n + t]
+    cells[place].cost
 }
 
-// The least cost from `v` to the goal, where the diagonal cells of the other formats have theirs: the unit at the goal itself.
-pub(crate) fn least_to<C: Cost>(cells: &[Cell<C>], n: usize, goal: usize, v: usize) -> Option<C>
-    requires room { n * n ≤ length cells.now }
-    requires small { n ≤ reach }
-    requires inside { v < n }
-    ensures { option_map C.value result ≡ to_goal C.Cost n cells.now goal v }
+// Sets the cost at a place of the table.
+#[inline(always)]
+pub(crate) fn set_cost<C: Cost>(cells: &mut [Cell<C>], place: usize, cost: C)
+    requires { place < length cells.old }
+    ensures { cells.new ≡ slice_set cells.old place (record { cost = cost }) }
 {
-    if v == goal {
-        Some(C::unit())
+    cells[place].cost = cost;
+}
+
+// The cost from `s` to `t`, if one was found. The table is a plain slice, whose holder has room for more cells: so `n` is passed
+// beside it.
+pub(crate) fn cost_at<C: Cost>(
+    cells: &[Cell<C>],
+    there: &[FormatSet; MOST_FORMATS],
+    n: usize,
+    s: usize,
+    t: usize,
+) -> Option<C>
+    requires room { n * n ≤ length cells.now }
+    requires few { n ≤ most_formats }
+    requires inside { (s < n) × (t < n) }
+    ensures { option_map C.value result ≡ least_in C.Cost n (tabled cells.now there.now) s t }
+{
+    if there[s].holds(t) {
+        Some(cost_in(cells, s * n + t))
     } else {
-        cell_at(cells, n, v, v).least
+        None
     }
 }

@@ -1,30 +1,162 @@
 // Elimination (Floyd–Warshall): a table of the costs of cards is brought, format after format, to least costs through lower formats,
 // unless a negative cycle comes up: a closed walk that undercuts the unit.
-// The table is a slice with n beside it, as its callers hold them; a format is its number, and where its cells lie is computed.
-ghost use Rattle.std.specs.Prelude.{◌≡◌, ℕ, ◌+◌, ◌<◌, ◌≤◌, true, false, Decides, Some, ◌≢◌, is_some};
+// The cells are a slice with n beside it, as its callers hold them, and `there` has a set for each row: which of its cells have a cost.
+ghost use Rattle.std.specs.Prelude.{◌≡◌, ℕ, ◌+◌, ◌*◌, ◌<◌, ◌≤◌, ◌⊎◌, true, false, cond, length, Decides, Some, is_some, ◌≢◌, slice_index_or};
 ghost use Rattle.std.specs.Option.{option_map};
+ghost use Rattle.costs.specs.Algebra.{IsJoin};
+ghost use Rattle.registers.specs.Meaning.{most_formats};
 ghost use Rattle.walks.specs.Levels.{Joinable, UndercutUnit};
-ghost use Rattle.walks.specs.Theorems.{Either};
-ghost use Rattle.walks.specs.Walk.{LeastOf};
-ghost use Rattle.bay.specs.Cells.{Each, Kept, Laid, cards_in, least_in};
-ghost use Rattle.bay.specs.Eliminated.{Block, FirstFound, PivotReady, Tally};
+ghost use Rattle.bay.specs.Buffers.{Beyond};
+ghost use Rattle.bay.specs.Cells.{Laid, Roomy, cards_in, least_in, meaning_at, tabled};
+ghost use Rattle.bay.specs.Eliminated.{Block, Closes, FirstFound, Improved, InRow, Leads, NearBy, Picked, PivotReady, RowReady, Spans, Tally};
+ghost use Rattle.bay.specs.FormatSets.{holds, no_formats};
 
 use crate::Cell;
-use crate::cells::cell_at;
+use crate::cells::{cost_at, cost_in, set_cost};
+use crate::sets::FormatSet;
 use costs::Cost;
+use registers::MOST_FORMATS;
 
-// The better of a held cost, if one is there, and the combination of two.
-pub(crate) fn better<C: Cost>(held: Option<C>, one: C, two: C) -> Option<C>
-    requires { ∥ Joinable C.algebra (Some (C.value one)) (Some (C.value two)) ∥₁ }
-    ensures { let o = option_map C.value held in
-        LeastOf C.algebra (Either C.algebra o (Some (C.value one)) (Some (C.value two)))
-        (option_map C.value result) }
+// The vector code for a row takes so many cells at once.
+const LANES: usize = 16;
+
+// The one or the other, by a mark and without a branch, so that a loop over a row becomes vector code.
+fn pick<C: Cost>(mark: bool, one: C, other: C) -> C
+    ensures { result ≡ cond mark one other }
 {
-    let sum = one.join(two);
-    match held {
-        Some(cost) if !sum.undercuts(cost) => Some(cost),
-        _ => Some(sum),
+    if mark { one } else { other }
+}
+
+// A format by way of which rows are improved, and the formats of a row that it leads to: as a set, and with a mark for each, which
+// lie in a span of whole vectors as far as the row goes.
+#[derive(Clone, Copy)]
+pub(crate) struct Via {
+    at: usize,
+    low: usize,
+    high: usize,
+    reached: FormatSet,
+    marks: [bool; MOST_FORMATS],
+}
+
+impl Via {
+    // The format `at`, with those formats of its row that stand from `low` to `high`.
+    pub(crate) fn new(at: usize, row: FormatSet, low: usize, high: usize, n: usize) -> Via
+        requires { (low ≤ high) × (high ≤ n) × (n ≤ most_formats) }
+        ensures at { result.at ≡ at }
+        ensures leads { Leads row low high result.reached }
+        ensures spans { Spans n result }
+    {
+        let reached = row
+            .and(FormatSet::below(high))
+            .except(FormatSet::below(low));
+        Via {
+            at,
+            low: low / LANES * LANES,
+            high: n.min(high.div_ceil(LANES) * LANES),
+            reached,
+            marks: reached.marks(),
+        }
     }
+}
+
+// Sets the cells of a row that have no cost yet, and get one by way of a format.
+fn fill<C: Cost>(cells: &mut [Cell<C>], n: usize, s: usize, at: usize, fresh: FormatSet, held: C)
+    requires room { n * n ≤ length cells.old }
+    requires few { n ≤ most_formats }
+    requires inside { (s < n) × (at < n) × (s ≢ at) }
+    requires fresh { (t : ℕ) → holds fresh t ≡ true → t < n }
+    ensures beyond { Beyond (n * n) cells.old cells.new }
+    ensures others { (k : ℕ) → ((t : ℕ) → holds fresh t ≡ true → k ≢ s * n + t) →
+        meaning_at C.Cost cells.new k ≡ meaning_at C.Cost cells.old k }
+    ensures filled { (t : ℕ) → holds fresh t ≡ true →
+        IsJoin C.algebra (C.value held) (meaning_at C.Cost cells.old (at * n + t))
+        (meaning_at C.Cost cells.new (s * n + t)) }
+{
+    let mut left = fresh;
+    while let Some(t) = left.first() {
+        let cost = held.join(cost_in(cells, at * n + t));
+        set_cost(cells, s * n + t, cost);
+        left = left.without(t);
+    }
+}
+
+// Sets the cells of a row to the better of their own costs and the ways by a format, where they have a mark. A combination with
+// what stands in a cell without a cost is made and not used.
+fn improve<C: Cost>(cells: &mut [Cell<C>], n: usize, s: usize, via: &Via, held: C)
+    requires room { n * n ≤ length cells.old }
+    requires few { n ≤ most_formats }
+    requires inside { (s < n) × (via.now.at < n) × (s ≢ via.now.at) }
+    requires spans { (via.now.low ≤ via.now.high) × (via.now.high ≤ n) }
+    ensures beyond { Beyond (n * n) cells.old cells.new }
+    ensures others { (k : ℕ) → (k < s * n + via.now.low) ⊎ (s * n + via.now.high ≤ k) →
+        meaning_at C.Cost cells.new k ≡ meaning_at C.Cost cells.old k }
+    ensures better { (t : ℕ) → via.now.low ≤ t → t < via.now.high →
+        Picked C.algebra (slice_index_or via.now.marks t false) (C.value held)
+        (meaning_at C.Cost cells.old (via.now.at * n + t))
+        (meaning_at C.Cost cells.old (s * n + t)) (meaning_at C.Cost cells.new (s * n + t)) }
+{
+    let row = s * n;
+    let pivot = via.at * n;
+    for t in via.low..via.high {
+        let sum = held.join(cost_in(cells, pivot + t));
+        let cost = cost_in(cells, row + t);
+        let picked = pick(via.marks[t] & sum.undercuts(cost), sum, cost);
+        set_cost(cells, row + t, picked);
+    }
+}
+
+// Brings the cells of a row to the better of their own costs and the ways by a format, where that leads to them. A row with no
+// cost to the format has nothing to pass on, and is left at once: answers whether it has one.
+pub(crate) fn by_way<C: Cost>(
+    cells: &mut [Cell<C>],
+    there: &mut [FormatSet; MOST_FORMATS],
+    n: usize,
+    s: usize,
+    via: &Via,
+) -> bool
+    requires ready { RowReady C.Cost n s via.now (tabled cells.old there.old) }
+    ensures beyond { Beyond (n * n) cells.old cells.new }
+    ensures passed { NearBy C.Cost n s via.now (tabled cells.old there.old) →
+        Improved C.Cost n via.now.at (InRow s via.now.reached)
+        (tabled cells.old there.old) (tabled cells.new there.new) }
+    ensures answer { result
+        ≡ is_some (least_in C.Cost n (tabled cells.old there.old) s via.now.at) }
+    ensures roomy { Roomy C.Cost n (tabled cells.new there.new) }
+    ensures others { (a : ℕ) → a ≢ s →
+        slice_index_or there.new a no_formats ≡ slice_index_or there.old a no_formats }
+{
+    let row = there[s];
+    if !row.holds(via.at) {
+        return false;
+    }
+    let held = cost_in(cells, s * n + via.at);
+    fill(cells, n, s, via.at, via.reached.except(row), held);
+    improve(cells, n, s, via, held);
+    there[s] = row.or(via.reached);
+    true
+}
+
+// Every cell of two formats from `low` on, by way of a lower one: the diagonal cells too, which belong to no pair. Answers how many
+// rows have a cost to it.
+fn pass<C: Cost>(
+    cells: &mut [Cell<C>],
+    there: &mut [FormatSet; MOST_FORMATS],
+    n: usize,
+    at: usize,
+) -> usize
+    requires ready { PivotReady C.Cost n at (tabled cells.old there.old) }
+    ensures passed { Improved C.Cost n at (Block (at + 1) n (at + 1) n)
+        (tabled cells.old there.old) (tabled cells.new there.new) }
+    ensures rows { let before = tabled cells.old there.old in
+        Tally (λ s. is_some (least_in C.Cost n before s at)) (at + 1) n result }
+    ensures few { result ≤ n }
+{
+    let via = Via::new(at, there[at], at + 1, n, n);
+    let mut count = 0;
+    for s in at + 1..n {
+        count += usize::from(by_way(cells, there, n, s, &via));
+    }
+    count
 }
 
 // Whether the cost there and the cost back are both there, and undercut the unit together.
@@ -39,110 +171,33 @@ pub(crate) fn undercut_unit<C: Cost>(there: Option<C>, back: Option<C>) -> bool
     }
 }
 
-// A table of the costs between n formats, and the pivot: the format by way of which its cells are improved.
-struct Pivot<'a, C: Cost> {
-    cells: &'a mut [Cell<C>],
+// Whether the costs from `at` to `k` and back undercut the unit.
+fn closes<C: Cost>(
+    cells: &[Cell<C>],
+    there: &[FormatSet; MOST_FORMATS],
     n: usize,
     at: usize,
-    // the costs to and from the pivot are near, whichever way that was shown
-    ghost ready: { ∥ PivotReady C.Cost n at cells.now ∥₁ },
+    k: usize,
+) -> bool
+    requires ready { PivotReady C.Cost n at (tabled cells.now there.now) }
+    requires lower { k < at }
+    ensures { Decides result (Closes C.Cost n (tabled cells.now there.now) at k) }
+{
+    undercut_unit(
+        cost_at(cells, there, n, at, k),
+        cost_at(cells, there, n, k, at),
+    )
 }
 
-// When it ends, the table is given back as the pivot had it.
-impl<C: Cost> Drop for Pivot<'_, C> {
-    fn drop(self)
-        ensures { self.exit.0.now ≡ self.entry.cells.now }
-    {
-        let Pivot {
-            cells: _,
-            n: _,
-            at: _,
-        } = self;
-    }
-}
-
-impl<C: Cost> Pivot<'_, C> {
-    ghost use Rattle.bay.specs.Pivots.{ClosesBy, Passed, least_of};
-
-    // The least cost from `s` to `t` that was found so far.
-    fn least(&self, s: usize, t: usize) -> Option<C>
-        requires { (s < self.now.n) × (t < self.now.n) }
-        ensures { option_map C.value result ≡ least_of self.now s t }
-    {
-        cell_at(self.cells, self.n, s, t).least
-    }
-
-    // One cell by way of the pivot, with the costs from its row's format to the pivot and from the pivot to its column's.
-    fn improve(&mut self, first: Option<C>, second: Option<C>, s: usize, t: usize)
-        requires first { option_map C.value first ≡ least_of self.old s self.old.at }
-        requires second { option_map C.value second ≡ least_of self.old self.old.at t }
-        requires row { (s < self.old.n) × (s ≢ self.old.at) }
-        requires column { (t < self.old.n) × (t ≢ self.old.at) }
-        ensures { Passed (Block s (s + 1) t (t + 1)) self.old self.new }
-    {
-        let (Some(one), Some(two)) = (first, second) else {
-            return;
-        };
-        // Lent once more first: the checker covers no element of a slice in a field behind a `&mut`.
-        let cells = &mut *self.cells;
-        let cell = &mut cells[s * self.n + t];
-        cell.least = better(cell.least, one, two);
-    }
-
-    // Every cell of `s` and a format from `low` to `high`, by way of the pivot, which is outside of them. A row with no cost to
-    // the pivot has nothing to pass on, and is left at once: answers whether it has one.
-    fn pass_row(&mut self, s: usize, low: usize, high: usize) -> bool
-        requires row { (s < self.old.n) × (s ≢ self.old.at) }
-        requires columns { (low ≤ high) × (high ≤ self.old.n)
-            × ((low ≤ self.old.at) → (self.old.at < high) → ⊥) }
-        ensures passed { Passed (Block s (s + 1) low high) self.old self.new }
-        ensures answer { result ≡ is_some (least_of self.old s self.old.at) }
-    {
-        let at = self.at;
-        let first = self.least(s, at);
-        if first.is_none() {
-            return false;
-        }
-        for t in low..high {
-            let second = self.least(at, t);
-            self.improve(first, second, s, t);
-        }
-        true
-    }
-
-    // Every cell of two formats from `low` to `high`, by way of the pivot, which is outside of them: the diagonal cells too,
-    // which belong to no pair, since whole rows take less time. Answers how many rows have a cost to the pivot. Inlined, so that
-    // its loops keep the pivot in registers.
-    #[inline(always)]
-    fn pass(&mut self, low: usize, high: usize) -> usize
-        requires square { (low ≤ high) × (high ≤ self.old.n)
-            × ((low ≤ self.old.at) → (self.old.at < high) → ⊥) }
-        ensures passed { Passed (Block low high low high) self.old self.new }
-        ensures rows { Tally (λ s. is_some (least_of self.old s self.old.at)) low high result }
-        ensures few { result ≤ high }
-    {
-        let mut count = 0;
-        for s in low..high {
-            count += usize::from(self.pass_row(s, low, high));
-        }
-        count
-    }
-
-    // Whether the costs from the pivot to `k` and back undercut the unit.
-    fn closes(&self, k: usize) -> bool
-        requires lower { k < self.now.at }
-        ensures { Decides result (ClosesBy self.now k) }
-    {
-        undercut_unit(self.least(self.at, k), self.least(k, self.at))
-    }
-
-    // Whether the costs from the pivot to some lower format and back undercut the unit.
-    fn looks(&self) -> bool
-        ensures yes { result ≡ true → (k : ℕ) × (k < self.now.at) × ClosesBy self.now k }
-        ensures no { result ≡ false → (k : ℕ) → k < self.now.at → ClosesBy self.now k → ⊥ }
-    {
-        (0..self.at).any(|k| self.closes(k))
-    }
+// Whether the costs from `at` to some lower format and back undercut the unit.
+fn looks<C: Cost>(cells: &[Cell<C>], there: &[FormatSet; MOST_FORMATS], n: usize, at: usize) -> bool
+    requires ready { PivotReady C.Cost n at (tabled cells.now there.now) }
+    ensures yes { result ≡ true →
+        (k : ℕ) × (k < at) × Closes C.Cost n (tabled cells.now there.now) at k }
+    ensures no { result ≡ false →
+        (k : ℕ) → k < at → Closes C.Cost n (tabled cells.now there.now) at k → ⊥ }
+{
+    (0..at).any(|k| closes(cells, there, n, at, k))
 }
 
 // What the first stage finds: the first format at which a closed walk through lower ones undercuts the unit; or that there is none,
@@ -155,19 +210,23 @@ pub(crate) enum Found {
 
 // The first stage: the first format at which a closed walk through lower ones undercuts the unit, or every cell's least cost
 // over inner formats below both of its own.
-pub(crate) fn first_stage<C: Cost>(cells: &mut [Cell<C>], n: usize) -> Found
-    requires laid { Laid C.Cost n cells.old }
-    requires fresh { Each C.Cost n cells.old (λ s t o. o ≡ cards_in C.Cost n cells.old s t) }
-    ensures kept { Kept n cells.old cells.new }
-    ensures found { FirstFound C.Cost n (cards_in C.Cost n cells.old) cells.new result }
+pub(crate) fn first_stage<C: Cost>(
+    cells: &mut [Cell<C>],
+    there: &mut [FormatSet; MOST_FORMATS],
+    n: usize,
+) -> Found
+    requires laid { Laid C.Cost n (tabled cells.old there.old) }
+    ensures beyond { Beyond (n * n) cells.old cells.new }
+    ensures roomy { Roomy C.Cost n (tabled cells.new there.new) }
+    ensures found { let card = cards_in C.Cost n (tabled cells.old there.old) in
+        FirstFound C.Cost n card (tabled cells.new there.new) result }
 {
     let mut rows = 0;
     for h in 0..n {
-        let mut pivot = Pivot { cells, n, at: h };
-        if pivot.looks() {
+        if looks(cells, there, n, h) {
             return Found::LoopAt(h);
         }
-        rows += pivot.pass(h + 1, n);
+        rows += pass(cells, there, n, h);
     }
     Found::NoLoop(rows)
 }

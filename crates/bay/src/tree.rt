@@ -1,15 +1,18 @@
-// The shortest-path tree: chains of least cost to a goal, along tight cards, found from a table whose diagonal has each format's least
-// cost to it.
+// The shortest-path tree: chains of least cost to a goal, along tight cards, found from a table in which the row of the goal has each
+// format's least cost to it.
 ghost use Rattle.std.specs.Prelude.{◌≡◌, ℕ, Some, ◌<◌, ◌≤◌, true, false, [], ◌∷◌, ◌++◌, length, MatchOption, Decides, ◌≢◌, replicate, slice_index, slice_index_or, slice_set};
 ghost use Rattle.std.specs.Option.{option_map};
-ghost use Rattle.registers.specs.Meaning.{most_formats};
-ghost use Rattle.bay.specs.Cells.{Laid, cards_in, least_in};
-ghost use Rattle.walks.specs.Walk.{Gains, Least};
-ghost use Rattle.bay.specs.Tracing.{Clear, GoalReady, Rises, TickedFrom, Traced, Wider};
+ghost use Rattle.registers.specs.Meaning.{most_formats, stands};
+ghost use Rattle.walks.specs.Levels.{upto};
+ghost use Rattle.bay.specs.Cells.{Roomy, least_in, tabled};
+ghost use Rattle.bay.specs.FormatSets.{Standing};
+ghost use Rattle.bay.specs.Tracing.{Clear, GoalReady, Rises, Wider};
 
-use crate::cells::{Cell, cell_at, least_to};
+use crate::cells::{Cell, cost_at};
+use crate::sets::FormatSet;
+use crate::survey::card_upto;
 use costs::Cost;
-use registers::MOST_FORMATS;
+use registers::{MOST_FORMATS, Register};
 use std::marker::Model;
 
 // A tick for each format that a trace passes, in an array by format that is lent. All ticks are gone when it ends.
@@ -153,45 +156,58 @@ fn same<C: Cost>(one: C, other: C) -> bool
     !one.undercuts(other) && !other.undercuts(one)
 }
 
-// A table whose diagonal has the least costs to the goal of a trace.
+// A table with the least costs to the goal of a trace in the row of the goal, and the register's cards that lead from a format below
+// `high` to one up to it.
 #[derive(Drop)]
-struct GoalTable<'a, C: Cost> {
-    cells: &'a [Cell<C>],
-    n: usize,
-    goal: usize,
+pub(crate) struct GoalTable<'a, R: Register> {
+    pub(crate) register: &'a R,
+    pub(crate) high: usize,
+    pub(crate) cells: &'a [Cell<R::Cost>],
+    pub(crate) there: &'a [FormatSet; MOST_FORMATS],
+    pub(crate) standing: &'a [FormatSet; MOST_FORMATS],
+    pub(crate) n: usize,
+    pub(crate) goal: usize,
+    // there are n × n cells
+    ghost roomy: { Roomy R.Cost.Cost n (tabled cells.now there.now) },
+    // the sets have the cards
+    ghost stand: { let cards = upto high (stands R.Cost.Cost (R.holds register.now)) in
+        Standing n cards standing.now },
     // its costs are the least ones, whichever way that was shown
-    ghost ready: { ∥ GoalReady C.Cost n cells.now goal ∥₁ },
+    ghost ready: { let cards = upto high (stands R.Cost.Cost (R.holds register.now)) in
+        let least = least_in R.Cost.Cost n (tabled cells.now there.now) in
+        ∥ GoalReady R.Cost.algebra n cards (least goal) goal ∥₁ },
 }
 
-impl<C: Cost> GoalTable<'_, C> {
-    ghost use Rattle.bay.specs.GoalTables.{ExhaustedBy, OnwardBy, ScannedBy, SearchedBy, CoveredBy, LeadsBy, TightBy, rest_of};
+impl<R: Register> GoalTable<'_, R> {
+    ghost use Rattle.bay.specs.GoalTables.{CoveredBy, ExhaustedBy, LeadsBy, OnwardBy, ScannedBy, SearchedBy, TickedBy, TightBy, TracedBy, cards_of, cost_of, rest_of};
 
-    // The least cost from `to` to the goal, the unit at the goal itself.
-    fn rest(&self, to: usize) -> Option<C>
-        requires { to < self.now.n }
-        ensures { option_map C.value result ≡ rest_of self.now to }
+    // The least cost from `from` to the goal.
+    pub(crate) fn rest(&self, from: usize) -> Option<R::Cost>
+        requires { from < self.now.n }
+        ensures rest { option_map R.Cost.value result ≡ rest_of self.now from }
+        ensures cost { option_map R.Cost.value result ≡ cost_of self.now from }
     {
-        least_to(self.cells, self.n, self.goal, to)
+        cost_at(self.cells, self.there, self.n, self.goal, from)
     }
 
     // Whether a card leads from `from` to `to` that is tight on the way to the goal: with the rest of the way from `to`, it
     // costs just `whole`, what is least from `from`.
-    fn tight(&self, whole: C, from: usize, to: usize) -> bool
-        requires inside { (from < self.now.n) × (to < self.now.n) × (from ≢ to) }
-        requires whole { Some (C.value whole) ≡ rest_of self.now from }
+    fn tight(&self, whole: R::Cost, from: usize, to: usize) -> bool
+        requires inside { (from < self.now.n) × (to < self.now.n) }
+        requires whole { Some (R.Cost.value whole) ≡ rest_of self.now from }
         ensures { Decides result (TightBy self.now from to) }
     {
-        let Some(card) = cell_at(self.cells, self.n, from, to).card else {
+        let Some(onward) = self.rest(to) else {
             return false;
         };
-        let Some(onward) = self.rest(to) else {
+        let Some(card) = card_upto(self.register, self.high, from, to) else {
             return false;
         };
         same(card.join(onward), whole)
     }
 
     // Goes over the tight cards from the format at the place, and adds the formats without a mark that they lead to, until one
-    // leads to a format with a tick, which it answers. A format is its number, so the loop goes over the numbers.
+    // leads to a format with a tick, which it answers.
     fn scan(&self, ticks: &Ticks, search: &mut Search, place: usize) -> Option<usize>
         requires inside { place < length search.old.formats }
         requires searched { SearchedBy self.now ticks.now.sheet.now search.old }
@@ -205,13 +221,16 @@ impl<C: Cost> GoalTable<'_, C> {
     {
         let from = search.format(place);
         let whole = self.rest(from)?;
-        for to in 0..self.n {
+        let reached = self.there[self.goal].and(FormatSet::below(self.n));
+        let mut left = self.standing[from].and(reached);
+        while let Some(to) = left.first() {
             if !search.has(to) && self.tight(whole, from, to) {
                 if ticks.has(to) {
                     return Some(to);
                 }
                 search.push(to, place);
             }
+            left = left.without(to);
         }
         None
     }
@@ -298,6 +317,8 @@ impl<C: Cost> GoalTable<'_, C> {
         ticks: &mut Ticks,
         next: &mut [usize; MOST_FORMATS],
     )
+        requires ready { let p = self.now in
+            GoalReady R.Cost.algebra p.n (cards_of p) (cost_of p) p.goal }
         requires clear { Clear ticks.old.sheet.now }
         ensures leads { LeadsBy self.now ticks.new.sheet.now next.new }
         ensures covered { (v : ℕ) → v < self.now.n → slice_index_or wanted.now v false ≡ true →
@@ -311,31 +332,24 @@ impl<C: Cost> GoalTable<'_, C> {
             }
         }
     }
-}
 
-// Writes into `next` where to go on from each wanted format along a chain of least cost to the goal, and ticks each format that
-// such a chain passes.
-pub(crate) fn trace<C: Cost>(
-    cells: &[Cell<C>],
-    n: usize,
-    goal: usize,
-    wanted: &[bool; MOST_FORMATS],
-    ticks: &mut Ticks,
-    next: &mut [usize; MOST_FORMATS],
-)
-    requires laid { Laid C.Cost n cells.now }
-    requires few { n ≤ most_formats }
-    requires inside { goal < n }
-    requires calm { Gains C.algebra (cards_in C.Cost n cells.now) → ⊥ }
-    requires least { (v : ℕ) → v < n → (v ≢ goal) →
-        Least C.algebra (cards_in C.Cost n cells.now) v goal (least_in C.Cost n cells.now v v) }
-    requires clear { Clear ticks.old.sheet.now }
-    ensures traced { (v : ℕ) → v < n → slice_index_or wanted.now v false ≡ true →
-        Traced C.Cost n cells.now goal next.new v }
-    ensures ticked { (v : ℕ) → v < n → slice_index_or wanted.now v false ≡ true →
-        TickedFrom C.Cost n cells.now goal ticks.new.sheet.now next.new v }
-    ensures same { ticks.new.sheet.ghost_name ≡ ticks.old.sheet.ghost_name }
-{
-    let table = GoalTable { cells, n, goal };
-    table.lead_all(wanted, ticks, next);
+    // Writes into `next` where to go on from each wanted format along a chain of least cost to the goal, and ticks each format that
+    // such a chain passes.
+    pub(crate) fn trace(
+        &self,
+        wanted: &[bool; MOST_FORMATS],
+        ticks: &mut Ticks,
+        next: &mut [usize; MOST_FORMATS],
+    )
+        requires ready { let p = self.now in
+            GoalReady R.Cost.algebra p.n (cards_of p) (cost_of p) p.goal }
+        requires clear { Clear ticks.old.sheet.now }
+        ensures traced { (v : ℕ) → v < self.now.n → slice_index_or wanted.now v false ≡ true →
+            TracedBy self.now next.new v }
+        ensures ticked { (v : ℕ) → v < self.now.n → slice_index_or wanted.now v false ≡ true →
+            TickedBy self.now ticks.new.sheet.now next.new v }
+        ensures same { ticks.new.sheet.ghost_name ≡ ticks.old.sheet.ghost_name }
+    {
+        self.lead_all(wanted, ticks, next);
+    }
 }

@@ -47,8 +47,7 @@ struct Sheets<C> {
 impl<C: Kind> Sheets<C> {
     fn new(heap: Global, job: &Job) -> Result<Sheets<C>, AllocError> {
         let junk = Cell {
-            card: Some(C::of_number(3)),
-            least: Some(C::of_number(-7)),
+            cost: C::of_number(3),
         };
         let rows = job.legs.len().saturating_add(1);
         Ok(Sheets {

@@ -1,5 +1,5 @@
 -- What the stages of the search need: the least cost from v to the goal, by what is known of the formats below v or above it.
-use Rattle.std.proofs.Common.{◌≡◌, ℕ, zero, suc, ◌+◌, ◌-◌, ◌<◌, ◌≤◌, ◌⊎◌, List, [], ◌∷◌, ◌++◌, Some, Option, sym, refl, ap, subst, inl, inr, arith}
+use Rattle.std.proofs.Common.{◌≡◌, ℕ, suc, ◌+◌, ◌<◌, ◌≤◌, ◌⊎◌, List, [], ◌∷◌, ◌++◌, Some, Option, sym, refl, ap, subst, inl, inr, arith}
 use Rattle.std.proofs.lemmas.Bool.{cases_lt}
 use Rattle.costs.specs.Algebra.{Algebra, Lawful}
 use Rattle.walks.specs.Walk.{path, Below, Absent, Distinct, LeastOf, WalkCosts, LowWalkCosts, Least, LowLeast, GainsAt}
@@ -7,7 +7,7 @@ use Rattle.walks.specs.Theorems.{Sound}
 use Rattle.walks.specs.Levels.{ByWay, NoLoopBelow}
 use Rattle.walks.proofs.Runs.{Runs, runs_cost, cost_runs, runs_join, runs_split}
 use Rattle.walks.proofs.Least.{AtMost, Serves, Covers, at_most_self, at_most_trans, at_most_joined, drop_back, least_has, least_serves, least_made, least_cover}
-use Rattle.walks.proofs.Fold.{Low, Calm, Passes, to_low, of_low, to_least_low, of_least_low, calm_at, low_mono, low_join, pass}
+use Rattle.walks.proofs.Fold.{Low, Calm, Passes, to_low, of_low, to_least_low, of_least_low, calm_at, low_mono, pass}
 use Rattle.walks.proofs.Loops.{runs_inside, no_hidden_loop}
 use Rattle.walks.proofs.Cut.{absent_parts, below_absent, distinct_front, chain_of}
 
@@ -34,6 +34,10 @@ module _ {A : Algebra} (L : Lawful A) (card : ℕ → ℕ → Option A.Value) wh
       go (y, inl v, d) = (y, v, d)
       go (y, inr (a, b, u, v, f), d) = (a, u, drop_back L a b y x (calm b v) f d)
 
+  -- where no closed walk at t through lower formats undercuts the unit, walks that pass t inside cost no less
+  pub low_end : (s t : ℕ) (o : Option A.Value) → (GainsAt A card t → ⊥) → LowLeast A card t s t o → LowLeast A card (suc t) s t o
+  low_end s t o calm l = of_least_low L card (suc t) s t o (least_cover L (Low A card t s t) (Low A card (suc t) s t) o (λ x w. low_mono L card t (suc t) s t x (omega arith) w) (λ y w. skip_end s t calm y w) (to_least_low L card t s t o l))
+
   pub low_zero : (s t : ℕ) → LowLeast A card 0 s t (card s t)
   low_zero s t = of_least_low L card 0 s t (card s t) (least_made L (Low A card 0 s t) (card s t) (λ x e. ([], tt, e)) serve)
     where
@@ -50,72 +54,30 @@ module _ {A : Algebra} (L : Lawful A) (card : ℕ → ℕ → Option A.Value) wh
   held : (o : Option A.Value) (to on : ℕ → Option A.Value) (goal low high : ℕ) (x y : A.Value) → Serves A o x → AtMost A x y → Covers A (ByWay A o to on goal low high) y
   held o to on goal low high x y s u = (s.0, inl s.1, at_most_trans L s.0 x y s.2 u)
 
-  covered_by : (P : A.Value → Type 0) (x y : A.Value) → AtMost A x y → Covers A P x → Covers A P y
-  covered_by P x y u c = (c.0, c.1, at_most_trans L c.0 x y c.2 u)
-
   module _ (n : ℕ) (calm : NoLoopBelow A card n) where
-    -- The second stage: v is above the goal. The formats between them are folded in, one after the other.
-    pub second_cell : (v goal : ℕ) (o : Option A.Value) (to on : ℕ → Option A.Value) (r : Option A.Value) → goal < v → v < n → LowLeast A card goal v goal o →
-        ((j : ℕ) → goal < j → j < v → LowLeast A card j v j (to j) × LowLeast A card j j goal (on j)) →
-        LeastOf A (ByWay A o to on goal (goal + 1) v) r → LowLeast A card v v goal r
-    second_cell v goal o to on r lg lv lo way lr =
-        of_least_low L card v v goal r (least_cover L (ByWay A o to on goal (goal + 1) v) (Low A card v v goal) r into (cover (v - suc goal) v (omega arith) (omega arith)) lr)
-      where
-        start : LeastOf A (Low A card goal v goal) o
-        start = to_least_low L card goal v goal o lo
-
-        there : (j : ℕ) → goal < j → j < v → LeastOf A (Low A card j v j) (to j)
-        there j l m = to_least_low L card j v j (to j) (way j l m).0
-
-        on_from : (j : ℕ) → goal < j → j < v → LeastOf A (Low A card j j goal) (on j)
-        on_from j l m = to_least_low L card j j goal (on j) (way j l m).1
-
-        into : (x : A.Value) → ByWay A o to on goal (goal + 1) v x → Low A card v v goal x
-        into x (inl e) = low_mono L card goal v v goal x (omega arith) (least_has L (Low A card goal v goal) o x start e)
-        into x (inr (j, l, m, ne, (a, b, p, q, e))) =
-            subst (Low A card v v goal) (sym e)
-            (low_join L card v v j goal a b m
-            (low_mono L card j v v j a (omega arith) (least_has L (Low A card j v j) (to j) a (there j (omega arith) m) p))
-            (low_mono L card j v j goal b (omega arith) (least_has L (Low A card j j goal) (on j) b (on_from j (omega arith) m) q)))
-
-        cover : (d h : ℕ) → h ≡ d + suc goal → h ≤ v → (y : A.Value) → Low A card h v goal y → Covers A (ByWay A o to on goal (goal + 1) v) y
-        cover zero h e l y w = let f : h ≡ suc goal = omega arith in go (skip_end v goal (calm goal (omega arith)) y (subst (λ h. Low A card h v goal y) f w))
-          where
-            go : Covers A (Low A card goal v goal) y → Covers A (ByWay A o to on goal (goal + 1) v) y
-            go (z, u, m) = held o to on goal (goal + 1) v z y (least_serves L (Low A card goal v goal) o start z u) m
-        cover (suc d) k e l y w =
-            let f : k ≡ suc (d + suc goal) = omega arith in
-            let u = subst (λ h. Low A card h v goal y) f w in
-            go (λ z u. cover d (d + suc goal) refl (omega arith) z u) (pass L card (d + suc goal) (calm_at L card (d + suc goal) (calm (d + suc goal) (omega arith))) v u.0 goal y u.1 u.2)
-          where
-            h : ℕ
-            h = d + suc goal
-
-            under : (goal < h) × (h < v)
-            under = (omega arith, omega arith)
-
-            go : ((z : A.Value) → Low A card h v goal z → Covers A (ByWay A o to on goal (goal + 1) v) z) → Covers A (Passes L card h v goal) y → Covers A (ByWay A o to on goal (goal + 1) v) y
-            go lower (z, inl u, m) = covered_by (ByWay A o to on goal (goal + 1) v) z y m (lower z u)
-            go lower (z, inr (a, b, p, q, e), m) =
-                by_way o to on goal (goal + 1) v h a b y (omega (arith, under.0)) under.1 (λ e. absurd (omega (arith, under.0)))
-                (least_serves L (Low A card h v h) (to h) (there h under.0 under.1) a p)
-                (least_serves L (Low A card h h goal) (on h) (on_from h under.0 under.1) b q)
-                (subst (λ x. AtMost A x y) e m)
-
     -- The third stage: a walk from v is cut to a chain, and the chain in two at its first format above v.
     pub third_cell : Sound A n card → (v goal : ℕ) (o : Option A.Value) (to on : ℕ → Option A.Value) (r : Option A.Value) → (v ≡ goal → ⊥) → LowLeast A card v v goal o →
-        ((j : ℕ) → v < j → j < n → (j ≡ goal → ⊥) → LowLeast A card v v j (to j) × Least A card j goal (on j)) →
+        ((j : ℕ) → v < j → j < n → (j ≡ goal → ⊥) → (LowLeast A card v v j (to j) ⊎ Least A card v j (to j)) × Least A card j goal (on j)) →
         LeastOf A (ByWay A o to on goal (v + 1) n) r → Least A card v goal r
     third_cell sound v goal o to on r apart lo way = least_cover L (ByWay A o to on goal (v + 1) n) (WalkCosts A card v goal) r into cover
       where
         low_walk : (t : ℕ) (x : A.Value) → LowWalkCosts A card v v t x → (ms : List ℕ) × Runs A card v ms t x
         low_walk t x w = let p = to_low L card v v t x w in (p.0, p.2)
 
+        -- a cost to j, through lower formats or through all, is that of a walk, and covers those through lower ones
+        there_walk : (j : ℕ) (a : A.Value) → (v ≡ j → ⊥) → LowLeast A card v v j (to j) ⊎ Least A card v j (to j) → to j ≡ Some a → (ms : List ℕ) × Runs A card v ms j a
+        there_walk j a ne (inl k) e = low_walk j a (least_has L (LowWalkCosts A card v v j) (to j) a k e)
+        there_walk j a ne (inr k) e = cost_runs L card v j a ne (least_has L (WalkCosts A card v j) (to j) a k e)
+
+        there_serves : (j : ℕ) (a : A.Value) → LowLeast A card v v j (to j) ⊎ Least A card v j (to j) → Low A card v v j a → Serves A (to j) a
+        there_serves j a (inl k) w = least_serves L (LowWalkCosts A card v v j) (to j) k a (of_low L card v v j a w)
+        there_serves j a (inr k) w = least_serves L (WalkCosts A card v j) (to j) k a (runs_cost L card v w.0 j a w.2)
+
         into : (x : A.Value) → ByWay A o to on goal (v + 1) n x → WalkCosts A card v goal x
         into x (inl e) = let p = low_walk goal x (least_has L (LowWalkCosts A card v v goal) o x lo e) in runs_cost L card v p.0 goal x p.1
         into x (inr (j, l, m, ne, (a, b, e, f, g))) =
             let known = way j (omega arith) m ne in
-            let p = low_walk j a (least_has L (LowWalkCosts A card v v j) (to j) a known.0 e) in
+            let p = there_walk j a (λ e. absurd (omega arith)) known.0 e in
             let q = cost_runs L card j goal b ne (least_has L (WalkCosts A card j goal) (on j) b known.1 f) in
             runs_cost L card v (p.0 ++ j ∷ q.0) goal x (subst (Runs A card v (p.0 ++ j ∷ q.0) goal) (sym g) (runs_join L card v p.0 j q.0 goal a b p.1 q.1))
 
@@ -131,7 +93,7 @@ module _ {A : Algebra} (L : Lawful A) (card : ℕ → ℕ → Option A.Value) wh
             let inside = (runs_inside L card n sound v is r cut.0 cut.2).2 in
             let known = way r l inside (λ f. other (sym f)) in
             by_way o to on goal (v + 1) n r cut.0 cut.1 y (omega arith) inside (λ f. other (sym f))
-            (least_serves L (LowWalkCosts A card v v r) (to r) known.0 cut.0 (of_low L card v v r cut.0 (is, low, cut.2)))
+            (there_serves r cut.0 known.0 (is, low, cut.2))
             (least_serves L (WalkCosts A card r goal) (on r) known.1 cut.1 (runs_cost L card r js goal cut.1 cut.3)) (subst (λ x. AtMost A x y) cut.4 u)
 
         cover : (y : A.Value) → WalkCosts A card v goal y → Covers A (ByWay A o to on goal (v + 1) n) y

@@ -8,8 +8,8 @@ undercut_unit-requires g c =
     let L = g.met.R.Cost.Cost.lawful in
     let kind = g.R.Cost.Cost in
     let back = c.requires.back in
-    rw c.cell_at.ensures (∣ near_joinable kind.algebra c.args.n _ _ (omega (arith, back.few))
-    (card_near kind L c.args.n _ back.few c.card.ensures.admitted) (turns_near _ L _ _ _ _ back c.args.v c.requires.lower) ∣₁)
+    rw c.cost_at.ensures (∣ near_joinable kind.algebra c.args.n _ _ (omega (arith, back.roomy.few))
+    (card_near kind L c.args.n _ back.roomy.few c.card.ensures.admitted) (turns_near _ L _ _ _ _ back c.args.v c.requires.lower) ∣₁)
 
 pub returns : goal.returns
-returns g c = rw (c.card.ensures.value, c.cell_at.ensures) at c.undercut_unit.ensures
+returns g c = rw (c.card.ensures.value, c.cost_at.ensures) at c.undercut_unit.ensures

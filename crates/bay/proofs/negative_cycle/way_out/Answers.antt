@@ -2,6 +2,7 @@
 use Rattle.std.proofs.Common.{◌≡◌, ℕ, ◌<◌, is_some, Some, ap, subst, rules}
 use Rattle.std.proofs.lemmas.Iterator.{first_from_Range}
 use Rattle.registers.specs.Meaning.{meant, standing}
+use Rattle.bay.specs.Cells.{tabled}
 use Rattle.bay.specs.Solved.{Turns}
 use Rattle.walks.proofs.Ranges.{find_below}
 use Rattle.bay.proofs.negative_cycle.way_out.Given as given
@@ -10,7 +11,7 @@ use Rattle.bay.proofs.negative_cycle.way_out.Goals as goal
 abbrev Serves : (g : given.Over) → goal.After-find g → ℕ → Type 0
 Serves g c =
     let kind = g.R.Cost.Cost in
-    Turns kind c.args.n (standing (meant kind (g.R.Register.holds c.args.register.now))) c.args.cells.now c.args.h
+    Turns kind c.args.n (standing (meant kind (g.R.Register.holds c.args.register.now))) (tabled c.args.cells.now c.args.there.now) c.args.h
 
 found : (g : given.Over) (c : goal.After-find g) → (v : ℕ) × (c.find.result ≡ Some v) × (v < c.args.h) × Serves g c v
 found g c =

@@ -7,21 +7,17 @@ use Rattle.bay.specs.Buffers.{Beyond}
 use Rattle.bay.specs.Tracing.{Clear}
 use Rattle.walks.proofs.Restrict.{standing_inside}
 use Rattle.bay.proofs.PivotSteps.{lent_back}
-use Rattle.bay.proofs.Turning.{back_calm, back_least, turns_some, turns_loop}
+use Rattle.bay.proofs.Turning.{back_ready, turns_some, turns_loop}
 use Rattle.bay.proofs.negative_cycle.write_loop.Goals as goal
 
-pub trace-requires : goal.trace-requires
-trace-requires g c =
-    let L = g.met.R.Cost.Cost.lawful in
+pub invariant_of-back : goal.invariant_of-back
+invariant_of-back g c =
     let back = c.solve_back.ensures.back in
-    record {
-      laid = back.laid;
-      few = back.few;
-      inside = back.inside;
-      calm = back_calm _ L _ _ _ _ back;
-      least = back_least _ L _ _ _ _ back;
-      clear = subst Clear (sym c.over-ticks.ensures.ticks) c.requires.clear;
-    }
+    let ready = back_ready _ g.met.R.Cost.Cost.lawful _ _ _ _ back in
+    record { roomy = back.roomy; stand = c.solve_back.ensures.standing; ready = ∣ ready ∣₁ }
+
+pub trace-requires : goal.trace-requires
+trace-requires g c = record { ready = back_ready _ g.met.R.Cost.Cost.lawful _ _ _ _ c.solve_back.ensures.back; clear = subst Clear (sym c.over-ticks.ensures.ticks) c.requires.clear }
 
 pub way_out-from-requires : goal.way_out-from-requires
 way_out-from-requires g c =
@@ -32,12 +28,13 @@ way_out-from-requires g c =
 pub write_round-requires : goal.write_round-requires
 write_round-requires g c =
     let back = c.solve_back.ensures.back in
-    let loop = turns_loop _ g.met.R.Cost.Cost.lawful _ _ _ _ back c.trace.new.next _ c.way_out-from.ensures (λ v l. c.trace.ensures.traced v l (get_or-replicate most_formats v true false (omega (arith, c.solve_back.ensures.back.few)))) in
-    record { room = c.requires.row; leads = loop.4; inside = omega (arith, back.inside, back.few) }
+    let loop = turns_loop _ g.met.R.Cost.Cost.lawful _ _ _ _ back c.trace.new.next _ c.way_out-from.ensures (λ v l. c.trace.ensures.traced v l (get_or-replicate most_formats v true false (omega (arith, l, back.roomy.few)))) in
+    record { room = c.requires.row; leads = loop.4; inside = omega (arith, back.inside, back.roomy.few) }
 
 pub returns : goal.returns
 returns g c =
-    let loop = turns_loop _ g.met.R.Cost.Cost.lawful _ _ _ _ c.solve_back.ensures.back c.trace.new.next _ c.way_out-from.ensures (λ v l. c.trace.ensures.traced v l (get_or-replicate most_formats v true false (omega (arith, c.solve_back.ensures.back.few)))) in
+    let back = c.solve_back.ensures.back in
+    let loop = turns_loop _ g.met.R.Cost.Cost.lawful _ _ _ _ back c.trace.new.next _ c.way_out-from.ensures (λ v l. c.trace.ensures.traced v l (get_or-replicate most_formats v true false (omega (arith, l, back.roomy.few)))) in
     let from = c.way_out-from.result in
     record {
       clear = lent_back Clear c.drop-ticks.ensures (search rules);

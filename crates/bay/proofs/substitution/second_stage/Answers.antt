@@ -1,30 +1,32 @@
--- From the goal up: what a format's column needs of the formats below it is done.
-use Rattle.std.proofs.Common.{◌+◌, subst, arith}
-use Rattle.bay.specs.Eliminated.{Brought}
-use Rattle.bay.proofs.Passes.{kept_none, kept_then, laid_kept}
-use Rattle.bay.proofs.Columns.{least_read}
-use Rattle.bay.proofs.Levels.{second_none, second_combines, second_more}
+-- One format after the other.
+use Rattle.std.proofs.Common.{◌≡◌, suc, ◌+◌, subst, arith}
+use Rattle.bay.specs.Cells.{tabled}
+use Rattle.bay.specs.Eliminated.{SecondTo}
+use Rattle.bay.proofs.Passes.{beyond_none, beyond_then}
+use Rattle.bay.proofs.GoalSteps.{second_end, second_start}
 use Rattle.bay.proofs.substitution.second_stage.Goals as goal
 
-pub loop-v-init : goal.loop-v-init
-loop-v-init g c = (kept_none _ _, c.requires.low, second_none _ g.met.C.Cost.lawful _ _ c.requires.laid.sound _ _)
+pub loop-j-init : goal.loop-j-init
+loop-j-init g c = (
+  beyond_none _ _,
+  c.requires.roomy,
+  λ card sound calm done. second_start g.C.Cost g.met.C.Cost.lawful c.args.n card sound calm c.args.goals (tabled c.args.cells.now c.args.there.now) done,
+)
 
-pub bring-requires : goal.bring-requires
-bring-requires g c =
-    let room = (laid_kept _ _ _ _ c.loop-v.invariant.0 c.requires.laid).room in
-    second_combines _ g.met.C.Cost.lawful _ _ c.requires.laid.sound _ _ _ room (omega arith) c.loop-v-test.true c.requires.calm c.loop-v.invariant.1 c.loop-v.invariant.2
+pub loop-j-preserved : goal.loop-j-preserved
+loop-j-preserved g c =
+    let (beyond, roomy, known) = c.loop-j.invariant in
+    let told = c.pass_goals.ensures in
+    let next : suc c.loop-j.j ≡ c.loop-j.j + 1 = omega arith in (
+      beyond_then _ _ _ _ beyond told.beyond,
+      told.roomy,
+      λ card sound calm done. subst (λ k. SecondTo g.C.Cost c.args.n card (tabled c.pass_goals.new.cells c.pass_goals.new.there) c.args.goals (λ s. k)) next (told.passed card sound calm (known card sound calm done)),
+    )
 
-pub loop-v-preserved : goal.loop-v-preserved
-loop-v-preserved g c =
+pub returns-clause-middle : goal.returns-clause-middle
+returns-clause-middle g c =
     let K = g.C.Cost in
-    let n = c.args.n in
-    let brought = subst (λ o. Brought K n c.loop-v.v o c.args.goal (c.args.goal + 1) c.loop-v.v c.loop-v.cells c.bring.new.cells) (least_read K n c.loop-v.cells _ _ _ c.cell_at-held.ensures) c.bring.ensures in
-    let more = second_more K g.met.C.Cost.lawful n _ c.requires.laid.sound _ _ _ _ (omega arith) c.loop-v-test.true c.requires.calm c.loop-v.invariant.1 c.loop-v.invariant.2 brought in
-    (kept_then _ _ _ _ c.loop-v.invariant.0 c.bring.ensures.kept, more.0, more.1)
-
-pub returns : goal.returns
-returns g c = record {
-  kept = c.loop-v.invariant.0;
-  low = c.loop-v.invariant.1;
-  middle = λ v l u. c.loop-v.invariant.2 v u (omega arith);
-}
+    let now = tabled c.loop-j.cells c.loop-j.there in
+    let (beyond, roomy, known) = c.loop-j.invariant in
+    let end : c.loop-j.j ≡ c.args.n = omega (arith, c.loop-j.auto.j-end, c.loop-j-test.false) in
+    λ card sound calm done. second_end K g.met.C.Cost.lawful c.args.n card sound calm c.args.goals now (subst (λ k. SecondTo K c.args.n card now c.args.goals (λ s. k)) end (known card sound calm done))
