@@ -1,8 +1,8 @@
-/* Calls the routes of the library with many small sets of cards and legs, sound and unsound, and compares what it is told with an
- * implementation of the same rules that shares no code: rounds of relaxation over all cards. Has a ticket answered too, beside the
- * answer that it must get. Prints how many calls of routes there were.
+/* Calls the routes and the forks of the library with many small sets of cards, sound and unsound, and compares what it is told with an
+ * implementation of the same rules that shares no code: rounds of relaxation over all cards, and each split in turn. Has a ticket
+ * answered too, beside the answer that it must get. Prints how many calls of routes and forks there were.
  *
- * Checks tables of a customer's as well, and routes over them.
+ * Checks tables of a customer's as well, and routes and forks over them.
  *
  * Each export is called, and what it is not to write is compared as well, so that a library in which two slices of an export stand in
  * another order than in the header does not pass: no proof knows the header. */
@@ -13,7 +13,7 @@
 #include <stdlib.h>
 #include <string.h>
 
-enum { CALLS = 50000, TABLES = 20000, PLACE = 66, MOST = 66, LEGS = 34, CARDS = MOST * MOST, BYTES = LEGS * HURZELMA_ROW };
+enum { CALLS = 50000, FORKS = 20000, TABLES = 20000, PLACE = 66, MOST = 66, LEGS = 34, CARDS = MOST * MOST, BYTES = LEGS * HURZELMA_ROW };
 
 /* The kinds, and a cost of any of them: of delays all depths are 255, and of depths all delays 0. */
 enum kind { DELAY, DEPTH, BOTH };
@@ -30,10 +30,16 @@ struct job {
     struct hurzelma_leg legs[LEGS];
 };
 
-/* What it left. */
+/* The formats of a fork, which is made over the cards of a job and has no legs. */
+struct fork {
+    size_t input, first, second;
+};
+
+/* What a call left. */
 struct left {
     struct hurzelma_both costs[LEGS];
     uint8_t chains[BYTES];
+    size_t split;
 };
 
 static uint64_t state = 1;
@@ -76,11 +82,18 @@ static uint32_t fault(uint32_t layer, uint32_t number, uint32_t part) {
     return layer << 16 | number << 8 | part;
 }
 
-/* What is refused before a card is looked at. */
-static uint32_t early(const struct job *job) {
+/* What is refused for the number of formats and of cards. */
+static uint32_t unfit(const struct job *job) {
     size_t n = job->n;
     if (n < 2 || n > 64) return fault(3, 16, 0);
     if (job->cards_length < n * n) return fault(3, 16, 1);
+    return 0;
+}
+
+/* What is refused before a card is looked at. */
+static uint32_t early(const struct job *job) {
+    size_t n = job->n;
+    if (unfit(job) != 0) return unfit(job);
     for (size_t k = 0; k < job->legs_length; k++) {
         struct hurzelma_leg leg = job->legs[k];
         if (leg.from >= n) return fault(2, 11, 0);
@@ -90,6 +103,18 @@ static uint32_t early(const struct job *job) {
     if (job->legs_length == 0) return fault(2, 25, 0);
     if (job->costs_length < job->legs_length) return fault(2, 15, 1);
     if (job->chains_length < HURZELMA_ROW * job->legs_length) return fault(2, 15, 2);
+    return 0;
+}
+
+/* The same of a fork. */
+static uint32_t early_fork(const struct job *job, const struct fork *fork) {
+    size_t n = job->n;
+    if (unfit(job) != 0) return unfit(job);
+    if (fork->input >= n) return fault(2, 11, 0);
+    if (fork->first >= n) return fault(2, 11, 1);
+    if (fork->second >= n) return fault(2, 11, 2);
+    if (job->costs_length < 1) return fault(2, 15, 1);
+    if (job->chains_length < HURZELMA_ROW * HURZELMA_FORK_ROWS) return fault(2, 15, 2);
     return 0;
 }
 
@@ -153,19 +178,53 @@ static bool is_loop(const struct job *job, const uint8_t *row) {
     return is_walk(job, row, &cost) && row[0] > 1 && row[1] == row[row[0]] && all_differ(row + 1, row[0] - 1u) && better(cost, unit);
 }
 
+/* The best cost from one format to another; false where no walk leads there. */
+static bool best_cost(const struct job *job, size_t from, size_t to, struct cost *cost) {
+    struct cost best[MOST];
+    bool leads[MOST];
+    relax(job, to, best, leads);
+    *cost = best[from];
+    return leads[from];
+}
+
+/* Whether a row is a chain from one format to another at this cost. */
+static bool is_chain(const struct job *job, size_t from, size_t to, const uint8_t *row, struct cost told) {
+    struct cost cost;
+    return is_walk(job, row, &cost) && all_differ(row + 1, row[0]) && row[1] == from && row[row[0]] == to && equal(cost, told);
+}
+
 /* Whether a leg's row and cost are right. */
 static bool is_served(const struct job *job, struct hurzelma_leg leg, const uint8_t *row, struct cost told) {
-    struct cost best[MOST], cost;
-    bool leads[MOST];
-    if (!relax(job, leg.to, best, leads)) return false;
-    if (!leads[leg.from]) {
+    struct cost best;
+    if (!best_cost(job, leg.from, leg.to, &best)) {
         for (size_t i = 1; i < HURZELMA_ROW; i++) {
             if (row[i] != 255) return false;
         }
         return row[0] == 0 && equal(told, unit);
     }
-    return is_walk(job, row, &cost) && all_differ(row + 1, row[0]) && row[1] == leg.from && row[row[0]] == leg.to && equal(cost, told) &&
-           equal(told, best[leg.from]);
+    return equal(told, best) && is_chain(job, leg.from, leg.to, row, told);
+}
+
+/* A split of a fork: its format, what its chains cost, and their sum. */
+struct split {
+    size_t at;
+    struct cost parts[HURZELMA_FORK_ROWS], total;
+};
+
+/* The lowest split of those whose total is best; at n where there is none. */
+static struct split best_split(const struct job *job, const struct fork *fork) {
+    struct split best = {.at = job->n};
+    struct cost first[MOST], second[MOST];
+    bool leads_first[MOST], leads_second[MOST];
+    relax(job, fork->first, first, leads_first);
+    relax(job, fork->second, second, leads_second);
+    for (size_t at = 0; at < job->n; at++) {
+        struct split split = {at, {unit, first[at], second[at]}, unit};
+        if (!leads_first[at] || !leads_second[at] || !best_cost(job, fork->input, at, &split.parts[0])) continue;
+        split.total = sum(split.parts[0], sum(split.parts[1], split.parts[2]));
+        if (best.at == job->n || better(split.total, best.total)) best = split;
+    }
+    return best;
 }
 
 /* Whether two chains to one format go on alike from where they meet. */
@@ -186,24 +245,46 @@ static struct cost told_cost(const struct job *job, struct hurzelma_both entry) 
     return (struct cost){job->kind == DEPTH ? 0 : entry.delay, job->kind == DELAY ? 255 : entry.depth};
 }
 
-/* Whether all is right that a call told and left. */
+/* Whether a call for a loop left such a loop in row 0, and all else as it was. */
+static bool is_looped(const struct job *job, const struct left *before, const struct left *after) {
+    return is_loop(job, after->chains) && memcmp(before->costs, after->costs, sizeof before->costs) == 0 &&
+           memcmp(before->chains + HURZELMA_ROW, after->chains + HURZELMA_ROW, BYTES - HURZELMA_ROW) == 0 && before->split == after->split;
+}
+
+/* Whether all is as it was but so many entries and bytes of the sheets. */
+static bool is_beyond(size_t entries, size_t bytes, const struct left *before, const struct left *after) {
+    return memcmp(before->costs + entries, after->costs + entries, (LEGS - entries) * sizeof before->costs[0]) == 0 &&
+           memcmp(before->chains + bytes, after->chains + bytes, BYTES - bytes) == 0;
+}
+
+/* Whether all is right that a fork told and left. */
+static bool is_forked(const struct job *job, const struct fork *fork, uint32_t told, const struct left *before, const struct left *after) {
+    uint32_t cause = early_fork(job, fork);
+    if (cause != 0) return told == cause && memcmp(before, after, sizeof *before) == 0;
+    if (gains(job)) return told == fault(2, 26, 0) && is_looped(job, before, after);
+    struct split best = best_split(job, fork);
+    if (best.at == job->n) return told == fault(2, 27, 0) && memcmp(before, after, sizeof *before) == 0;
+    const uint8_t *rows = after->chains;
+    return told == 0 && after->split == best.at && equal(told_cost(job, after->costs[0]), best.total) &&
+           is_chain(job, fork->input, best.at, rows, best.parts[0]) &&
+           is_chain(job, best.at, fork->first, rows + HURZELMA_ROW, best.parts[1]) &&
+           is_chain(job, best.at, fork->second, rows + 2 * HURZELMA_ROW, best.parts[2]) &&
+           is_beyond(1, HURZELMA_FORK_ROWS * HURZELMA_ROW, before, after);
+}
+
+/* Whether all is right that a route told and left. */
 static bool is_right(const struct job *job, uint32_t told, const struct left *before, const struct left *after) {
     uint32_t cause = early(job);
     if (cause != 0) return told == cause && memcmp(before, after, sizeof *before) == 0;
-    size_t legs = job->legs_length, rows = HURZELMA_ROW * legs;
-    if (gains(job)) {
-        return told == fault(2, 26, 0) && is_loop(job, after->chains) &&
-               memcmp(before->costs, after->costs, sizeof before->costs) == 0 &&
-               memcmp(before->chains + HURZELMA_ROW, after->chains + HURZELMA_ROW, BYTES - HURZELMA_ROW) == 0;
-    }
+    size_t legs = job->legs_length;
+    if (gains(job)) return told == fault(2, 26, 0) && is_looped(job, before, after);
     for (size_t k = 0; k < legs; k++) {
         if (!is_served(job, job->legs[k], after->chains + HURZELMA_ROW * k, told_cost(job, after->costs[k]))) return false;
         for (size_t j = 0; j < k; j++) {
             if (!agree(after->chains + HURZELMA_ROW * j, after->chains + HURZELMA_ROW * k)) return false;
         }
     }
-    return told == 0 && memcmp(before->costs + legs, after->costs + legs, (LEGS - legs) * sizeof before->costs[0]) == 0 &&
-           memcmp(before->chains + rows, after->chains + rows, BYTES - rows) == 0;
+    return told == 0 && is_beyond(legs, HURZELMA_ROW * legs, before, after);
 }
 
 /* The calls. */
@@ -246,37 +327,56 @@ static void draw_job(struct job *job) {
     if (job->legs_length > 0 && chance(30)) job->chains_length = HURZELMA_ROW * job->legs_length - 1;
 }
 
-static uint32_t call_delay(const struct job *job, struct left *left) {
+/* A fork over a job's cards, mostly with room enough. */
+static void draw_fork(struct job *job, struct fork *fork) {
+    size_t last = job->n < 2 ? 1 : job->n - 1;
+    size_t *formats[] = {&fork->input, &fork->first, &fork->second};
+    for (size_t i = 0; i < 3; i++) *formats[i] = chance(60) ? (chance(5) ? SIZE_MAX : job->n) : (size_t)draw(0, (int64_t)last);
+    if (chance(10)) fork->second = fork->first;
+    if (chance(10)) fork->first = fork->input;
+    job->costs_length = chance(30) ? 0 : (size_t)draw(1, LEGS);
+    job->chains_length = (size_t)(chance(30) ? draw(0, 3 * HURZELMA_ROW - 1) : draw(3 * HURZELMA_ROW, BYTES));
+}
+
+/* The calls: a fork, or a route where none is given. */
+
+static uint32_t call_delay(const struct job *job, const struct fork *fork, struct left *left) {
     hurzelma_half_lines cards[CARDS], costs[LEGS];
     for (size_t i = 0; i < job->n * job->n; i++) cards[i] = (hurzelma_half_lines)job->cards[i].delay;
     for (size_t k = 0; k < LEGS; k++) costs[k] = left->costs[k].delay;
-    uint32_t told = hurzelma_route_delay(job->n, cards, job->cards_length, job->legs, job->legs_length,
-                                         costs, job->costs_length, left->chains, job->chains_length);
+    uint32_t told = fork ? hurzelma_fork_delay(job->n, cards, job->cards_length, fork->input, fork->first, fork->second,
+                                               costs, job->costs_length, left->chains, job->chains_length, &left->split)
+                         : hurzelma_route_delay(job->n, cards, job->cards_length, job->legs, job->legs_length,
+                                                costs, job->costs_length, left->chains, job->chains_length);
     for (size_t k = 0; k < LEGS; k++) left->costs[k].delay = costs[k];
     return told;
 }
 
-static uint32_t call_depth(const struct job *job, struct left *left) {
+static uint32_t call_depth(const struct job *job, const struct fork *fork, struct left *left) {
     hurzelma_bits cards[CARDS], costs[LEGS];
     for (size_t i = 0; i < job->n * job->n; i++) cards[i] = (hurzelma_bits)job->cards[i].depth;
     for (size_t k = 0; k < LEGS; k++) costs[k] = left->costs[k].depth;
-    uint32_t told = hurzelma_route_depth(job->n, cards, job->cards_length, job->legs, job->legs_length,
-                                         costs, job->costs_length, left->chains, job->chains_length);
+    uint32_t told = fork ? hurzelma_fork_depth(job->n, cards, job->cards_length, fork->input, fork->first, fork->second,
+                                               costs, job->costs_length, left->chains, job->chains_length, &left->split)
+                         : hurzelma_route_depth(job->n, cards, job->cards_length, job->legs, job->legs_length,
+                                                costs, job->costs_length, left->chains, job->chains_length);
     for (size_t k = 0; k < LEGS; k++) left->costs[k].depth = costs[k];
     return told;
 }
 
-static uint32_t call_both(const struct job *job, struct left *left) {
+static uint32_t call_both(const struct job *job, const struct fork *fork, struct left *left) {
     struct hurzelma_both cards[CARDS];
     for (size_t i = 0; i < job->n * job->n; i++) {
         cards[i] = (struct hurzelma_both){(hurzelma_half_lines)job->cards[i].delay, (hurzelma_bits)job->cards[i].depth};
     }
-    return hurzelma_route_both(job->n, cards, job->cards_length, job->legs, job->legs_length,
-                               left->costs, job->costs_length, left->chains, job->chains_length);
+    return fork ? hurzelma_fork_both(job->n, cards, job->cards_length, fork->input, fork->first, fork->second,
+                                     left->costs, job->costs_length, left->chains, job->chains_length, &left->split)
+                : hurzelma_route_both(job->n, cards, job->cards_length, job->legs, job->legs_length,
+                                      left->costs, job->costs_length, left->chains, job->chains_length);
 }
 
-static uint32_t call(const struct job *job, struct left *left) {
-    return job->kind == DELAY ? call_delay(job, left) : job->kind == DEPTH ? call_depth(job, left) : call_both(job, left);
+static uint32_t call(const struct job *job, const struct fork *fork, struct left *left) {
+    return job->kind == DELAY ? call_delay(job, fork, left) : job->kind == DEPTH ? call_depth(job, fork, left) : call_both(job, fork, left);
 }
 
 static const char ticket[] =
@@ -329,10 +429,8 @@ static bool is_checked(const int32_t *numbers, size_t length, int32_t *place, si
            memcmp(handed, numbers, sizeof handed) == 0;
 }
 
-/* Whether legs are routed rightly over what a place holds, under bars. */
-static bool is_routed(const int32_t *place, size_t length, struct job *job) {
-    static struct left before, after;
-    hurzelma_half_lines costs[LEGS];
+/* Bars, and a job over what a place holds under them. */
+static uint64_t draw_over_table(const int32_t *place, size_t length, struct job *job) {
     uint64_t bars = (uint64_t)draw(0, 255) & (uint64_t)draw(0, 255) & (uint64_t)draw(0, 255);
     if (chance(3)) bars = 0;
     if (chance(9)) bars |= UINT64_MAX << 8;
@@ -349,14 +447,27 @@ static bool is_routed(const int32_t *place, size_t length, struct job *job) {
         bool barred = bars >> (i / 8) & 1 || bars >> (i % 8) & 1;
         job->cards[i] = of_delay(passes && !barred ? place[i] : HURZELMA_NO_DELAY);
     }
+    return bars;
+}
+
+/* Whether legs are routed, or an input forks, rightly over what a place holds, under bars. */
+static bool is_told_over(const int32_t *place, size_t length, struct job *job, bool forks) {
+    static struct left before, after;
+    hurzelma_half_lines costs[LEGS];
+    struct fork fork;
+    uint64_t bars = draw_over_table(place, length, job);
+    if (forks) draw_fork(job, &fork);
     memset(&before, 0, sizeof before);
     for (size_t k = 0; k < LEGS; k++) before.costs[k].delay = costs[k] = (hurzelma_half_lines)draw(0, 255);
     for (size_t k = 0; k < BYTES; k++) before.chains[k] = (uint8_t)draw(0, 255);
     memcpy(&after, &before, sizeof after);
-    uint32_t told = hurzelma_route_table(place, length, bars, job->legs, job->legs_length,
-                                         costs, job->costs_length, after.chains, job->chains_length);
+    uint32_t told = forks ? hurzelma_fork_table(place, length, bars, fork.input, fork.first, fork.second,
+                                                costs, job->costs_length, after.chains, job->chains_length, &after.split)
+                          : hurzelma_route_table(place, length, bars, job->legs, job->legs_length,
+                                                 costs, job->costs_length, after.chains, job->chains_length);
     for (size_t k = 0; k < LEGS; k++) after.costs[k].delay = costs[k];
-    return HURZELMA_NUMBER(told) != 26 && is_right(job, told, &before, &after);
+    bool right = forks ? is_forked(job, &fork, told, &before, &after) : is_right(job, told, &before, &after);
+    return HURZELMA_NUMBER(told) != 26 && right;
 }
 
 /* A table: often one in which a card costs at least what the heights of its ends fall, so that it does not gain. */
@@ -395,7 +506,8 @@ static bool each_index_is_told(void) {
     return true;
 }
 
-/* Tables that are drawn, each checked into a place, and legs routed over what the place then holds; answers how many passed, or -1. */
+/* Tables that are drawn, each checked into a place, and legs routed and an input forked over what the place then holds; answers how many
+ * passed, or -1. */
 static int tables_told(struct job *job) {
     static const size_t odd_lengths[] = {0, 1, 8, 63, 65, 66};
     int passed = 0;
@@ -406,14 +518,45 @@ static int tables_told(struct job *job) {
         draw_table(numbers);
         draw_table(place);
         passed += table_fault(numbers, length, room) == 0;
-        if (!is_checked(numbers, length, place, room) || !is_routed(place, room, job)) return -1;
+        if (!is_checked(numbers, length, place, room)) return -1;
+        if (!is_told_over(place, room, job, false) || !is_told_over(place, room, job, true)) return -1;
     }
     return passed;
 }
 
+/* A call of a route, or of a fork, with sheets that hold anything; answers whether it was told rightly, and what. */
+static bool is_told(struct job *job, bool forks, uint32_t *told) {
+    static struct left before, after;
+    struct fork fork;
+    draw_job(job);
+    if (forks) draw_fork(job, &fork);
+    for (size_t k = 0; k < sizeof before; k++) ((uint8_t *)&before)[k] = (uint8_t)draw(0, 255);
+    memcpy(&after, &before, sizeof after);
+    *told = call(job, forks ? &fork : NULL, &after);
+    return forks ? is_forked(job, &fork, *told, &before, &after) : is_right(job, *told, &before, &after);
+}
+
+/* So many calls; answers whether all were told rightly, and prints how many were granted and found a loop. */
+static bool all_told(struct job *job, bool forks, unsigned calls) {
+    unsigned granted = 0, loops = 0, unsplit = 0;
+    for (unsigned i = 0; i < calls; i++) {
+        uint32_t told;
+        if (!is_told(job, forks, &told)) {
+            printf("%s %u of %zu formats is wrong: it was told %u\n", forks ? "fork" : "call", i, job->n, told);
+            return false;
+        }
+        granted += told == 0;
+        loops += HURZELMA_NUMBER(told) == 26;
+        unsplit += HURZELMA_NUMBER(told) == 27;
+    }
+    printf("%u %s told rightly: %u granted, %u loops", calls, forks ? "forks" : "calls", granted, loops);
+    if (forks) printf(", %u without a split", unsplit);
+    printf("\n");
+    return true;
+}
+
 int main(void) {
     static struct job job;
-    unsigned granted = 0, loops = 0;
     if (!each_index_is_told()) {
         printf("a table with one number changed is told wrongly\n");
         return 1;
@@ -424,23 +567,10 @@ int main(void) {
             return 1;
         }
     }
-    for (unsigned i = 0; i < CALLS; i++) {
-        struct left before, after;
-        draw_job(&job);
-        for (size_t k = 0; k < sizeof before; k++) ((uint8_t *)&before)[k] = (uint8_t)draw(0, 255);
-        memcpy(&after, &before, sizeof after);
-        uint32_t told = call(&job, &after);
-        if (!is_right(&job, told, &before, &after)) {
-            printf("call %u of %zu formats is wrong: it was told %u\n", i, job.n, told);
-            return 1;
-        }
-        granted += told == 0;
-        loops += HURZELMA_NUMBER(told) == 26;
-    }
-    printf("%d calls told rightly: %u granted, %u loops\n", CALLS, granted, loops);
+    if (!all_told(&job, false, CALLS) || !all_told(&job, true, FORKS)) return 1;
     int passed = tables_told(&job);
     if (passed < 0) {
-        printf("a table or a route over one is told wrongly\n");
+        printf("a table, or a route or a fork over one, is told wrongly\n");
         return 1;
     }
     printf("%d tables told rightly: %d passed\n", TABLES, passed);

@@ -1,5 +1,5 @@
-/* A host in C: it asks for four routes by numbers, for two over a table of its own, and for the answers to three tickets, and prints
- * what it is told. */
+/* A host in C: it asks for four routes and two forks by numbers, for two routes and a fork over a table of its own, and for the answers
+ * to three tickets, and prints what it is told. */
 #include "hurzelma.h"
 
 #include <stdio.h>
@@ -48,12 +48,41 @@ static void route(const hurzelma_half_lines cards[FORMATS * FORMATS], const stru
     print_legs(LEGS, costs, chains);
 }
 
+/* Where an input splits, what that costs, and the three chains. */
+static void print_split(size_t split, hurzelma_half_lines total, const uint8_t *chains) {
+    printf("split at %zu: %d half lines\n", split, (int)total);
+    for (size_t k = 0; k < HURZELMA_FORK_ROWS; k++) {
+        printf(k == 0 ? "  in by" : "  out by");
+        print_row(chains + k * HURZELMA_ROW);
+    }
+}
+
+/* Splits format 0 over formats 2 and 3. The least chains of legs to each would have no card in common: 0 2, and 0 3. Then without
+ * the cards to format 3. */
+static void fork_once(void) {
+    enum { NO = HURZELMA_NO_DELAY, COUNT = 4 };
+    hurzelma_half_lines total = 0;
+    uint8_t chains[HURZELMA_FORK_ROWS * HURZELMA_ROW] = {0};
+    size_t split = 0;
+    hurzelma_half_lines cards[COUNT * COUNT] = {
+        NO, 5, 6, 6,
+        NO, NO, 2, 2,
+        NO, NO, NO, NO,
+        NO, NO, NO, NO,
+    };
+    hurzelma_fork_delay(COUNT, cards, COUNT * COUNT, 0, 2, 3, &total, 1, chains, sizeof chains, &split);
+    print_split(split, total, chains);
+    cards[0 * COUNT + 3] = cards[1 * COUNT + 3] = NO;
+    print_told(hurzelma_fork_delay(COUNT, cards, COUNT * COUNT, 0, 2, 3, &total, 1, chains, sizeof chains, &split));
+}
+
 /* Our own table with one more card, half a line from format 6 to format 4: checked, and a leg routed over it, bare and with format 3
- * barred. Then a card is changed so that the table gains. */
+ * barred; then a fork. Then a card is changed so that the table gains. */
 static void table(void) {
     const struct hurzelma_leg leg = {1, 0};
     hurzelma_half_lines numbers[HURZELMA_TABLE], place[HURZELMA_TABLE], cost;
-    uint8_t chain[HURZELMA_ROW];
+    uint8_t chains[HURZELMA_FORK_ROWS * HURZELMA_ROW];
+    size_t split;
     hurzelma_own_table(numbers, HURZELMA_TABLE);
     numbers[1 * HURZELMA_TABLE_FORMATS + 0] = HURZELMA_NO_DELAY;
     numbers[6 * HURZELMA_TABLE_FORMATS + 4] = 1;
@@ -63,9 +92,11 @@ static void table(void) {
         return;
     }
     for (uint64_t bars = 0; bars <= 1u << 3; bars += 1u << 3) {
-        hurzelma_route_table(place, HURZELMA_TABLE, bars, &leg, 1, &cost, 1, chain, sizeof chain);
-        print_legs(1, &cost, chain);
+        hurzelma_route_table(place, HURZELMA_TABLE, bars, &leg, 1, &cost, 1, chains, sizeof chains);
+        print_legs(1, &cost, chains);
     }
+    hurzelma_fork_table(place, HURZELMA_TABLE, 0, 1, 5, 6, &cost, 1, chains, sizeof chains, &split);
+    print_split(split, cost, chains);
     numbers[0] = 0;
     print_told(hurzelma_check_table(numbers, HURZELMA_TABLE, place, HURZELMA_TABLE));
     numbers[0] = HURZELMA_NO_DELAY;
@@ -123,6 +154,7 @@ int main(void) {
     route(cards, legs);
     route(gaining, legs);
     route(cards, wrong);
+    fork_once();
     route_both();
     table();
     answer("(bay delay 3)\n(format 0 UYVY)\n(format 1 v210)\n(format 2 NV12)\n"

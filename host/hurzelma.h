@@ -1,4 +1,4 @@
-/* Hurzelma for hosts in C: routes of converter chains, and answers to tickets.
+/* Hurzelma for hosts in C: routes and forks of converter chains, and answers to tickets.
  *
  * No function allocates, keeps anything from one call to the next, or reads or writes anything but what it is given. Each works
  * in at most HURZELMA_STACK bytes of the calling thread's stack, and may be called by several threads at once, each with its own
@@ -52,7 +52,7 @@ struct hurzelma_leg {
     size_t to;
 };
 
-/* What a route is told: 0 where it is granted, or a fault. */
+/* What a route or a fork is told: 0 where it is granted, or a fault. */
 #define HURZELMA_GRANTED 0u
 
 /* The layer that refused. */
@@ -62,12 +62,14 @@ struct hurzelma_leg {
 
 /* Why, and the part of the call that is meant; which leg is refused is not told:
  *   register 16: the number of formats (part 0), or fewer than n * n cards (1)
- *   bay 11: a leg's first (0) or last (1) format is not below n
- *   bay 15: the cost sheet (1) has fewer entries than there are legs, or the chain sheet (2) fewer bytes than their rows
+ *   bay 11: a leg's first (0) or last (1) format is not below n; of a fork, the input (0), the first output (1) or the second (2)
+ *   bay 15: the cost sheet (1) has fewer entries than there are legs, or the chain sheet (2) fewer bytes than their rows; for a fork,
+ *           one entry and HURZELMA_FORK_ROWS rows
  *   bay 24: more than 32 legs
  *   bay 25: no legs
  *   bay 26: a loop of cards undercuts the unit, which is 0 half lines, 255 bits, or both; row 0 then holds such a loop. Its first format comes
- *           again at its end and counts twice, so the number is up to 65 */
+ *           again at its end and counts twice, so the number is up to 65
+ *   bay 27: no chain leads from the input of a fork to its first output, or none to its second */
 #define HURZELMA_NUMBER(told) (((told) >> 8) & 255u)
 #define HURZELMA_PART(told) ((told) & 255u)
 
@@ -99,6 +101,32 @@ uint32_t hurzelma_route_both(size_t n, const struct hurzelma_both *cards, size_t
                              struct hurzelma_both *costs, size_t costs_length,
                              uint8_t *chains, size_t chains_length);
 
+/* The rows that a fork writes: from its input to the split, from the split to the first output, and from there to the second. */
+#define HURZELMA_FORK_ROWS 3
+
+/* Finds the cheapest split of one input over two outputs over the cards of n formats, which are handed in as to a route: a format,
+ * the split, and chains of least cost that lead from the input to it and from it to each output. What all three cost together is
+ * the total, so the part that both outputs share counts once; no other split has a lower total, and of those with the same one it
+ * is the lowest format. The split may be the input or an output, with a chain of that format alone, at the unit, and the outputs
+ * may be the same as each other or as the input.
+ *
+ * Granted, *split is the split, entry 0 of costs is the total, and rows 0 to 2 of chains hold the chains. All else is as it was.
+ * Refused, all is as it was, but for row 0 after 26. The causes are judged in this order: 16, 11, 15, 26, 27. */
+uint32_t hurzelma_fork_delay(size_t n, const hurzelma_half_lines *cards, size_t cards_length,
+                             size_t input, size_t first, size_t second,
+                             hurzelma_half_lines *costs, size_t costs_length,
+                             uint8_t *chains, size_t chains_length, size_t *split);
+
+uint32_t hurzelma_fork_depth(size_t n, const hurzelma_bits *cards, size_t cards_length,
+                             size_t input, size_t first, size_t second,
+                             hurzelma_bits *costs, size_t costs_length,
+                             uint8_t *chains, size_t chains_length, size_t *split);
+
+uint32_t hurzelma_fork_both(size_t n, const struct hurzelma_both *cards, size_t cards_length,
+                            size_t input, size_t first, size_t second,
+                            struct hurzelma_both *costs, size_t costs_length,
+                            uint8_t *chains, size_t chains_length, size_t *split);
+
 /* A house table of a customer's: 64 delays in half lines between 8 formats, row by row: that of the card from format s to format t
  * stands at s * 8 + t, HURZELMA_NO_DELAY where there is none. */
 #define HURZELMA_TABLE_FORMATS 8
@@ -121,6 +149,13 @@ uint32_t hurzelma_route_table(const hurzelma_half_lines *place, size_t place_len
                               const struct hurzelma_leg *legs, size_t legs_length,
                               hurzelma_half_lines *costs, size_t costs_length,
                               uint8_t *chains, size_t chains_length);
+
+/* Finds the cheapest split of one input over two outputs over such a table, under bars. Neither 26 nor 16 is ever told; all else is
+ * as in hurzelma_fork_delay over these cards. */
+uint32_t hurzelma_fork_table(const hurzelma_half_lines *place, size_t place_length, uint64_t bars,
+                             size_t input, size_t first, size_t second,
+                             hurzelma_half_lines *costs, size_t costs_length,
+                             uint8_t *chains, size_t chains_length, size_t *split);
 
 /* What a ticket is told: its answer is written, or the place is too short for it. */
 #define HURZELMA_WRITTEN 0u

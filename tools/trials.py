@@ -1,6 +1,6 @@
 #!/usr/bin/env python3
-"""Prints what the program trials must print, from a model of its own: a dict of cards, and routes by brute force. Delays are in half
-lines."""
+"""Prints what the program trials must print, from a model of its own: a dict of cards, and routes and forks by brute force. Delays are
+in half lines."""
 
 import itertools
 
@@ -370,6 +370,7 @@ def fixed_cases():
     print("withdraw 0 1: register 22.0")
     print("enter 0 1 2000001: register 13.2")
     notes()
+    fork_refusals()
 
 
 def notes():
@@ -382,6 +383,21 @@ def notes():
             print("leg 0 2 1: 2 formats")
     print("leg 0 0 1: 2 formats")
     print("show: bay 14.0")
+
+
+def fork_refusals():
+    print("fork 3 3 3: bay 11.0")
+    print("fork 0 3 3: bay 11.1")
+    print("fork 0 0 3: bay 11.2")
+    print("fork in a short table: bay 15.0")
+    print("fork with no cost: bay 15.1")
+    print("fork with short chains: bay 15.2")
+    # A card to one output alone; one to each of them, at a total of 12 half lines; a loop that gains.
+    print("fork 0 1 2: bay 27.0")
+    print("fork 0 2 1: bay 27.0")
+    print("fork 0 1 2: 0 at 12")
+    print("fork 2 2 2: 2 at 0")
+    print("fork 0 1 2: bay 26.0")
 
 
 # The delays of the house table, a row for each format as the first of a pair.
@@ -488,9 +504,139 @@ def customer_tables():
     print(f"legs over a place of 64 and of 63: {leg_cost(cards_of(OWN), 0, 1)} none")
 
 
+# Forks among other calls. A bay is a model of a register and a list of legs.
+
+
+def seen(model):
+    """The cards as they look from above."""
+    pairs = itertools.product(range(model.n), repeat=2)
+    return {(a, b): card for a, b in pairs if a != b and (card := model.card(a, b)) != "-"}
+
+
+def fork(kind, n, cards, start, first, second):
+    """The least total that three least costs come to, and the lowest format by way of which they do; or none."""
+    sign, combined = (1, sum) if kind == "delay" else (-1, min)
+    found = []
+    for split in range(n):
+        parts = [least(kind, n, cards, *ends) for ends in ((start, split), (split, first), (split, second))]
+        if None not in parts:
+            found.append((sign * combined(parts), split))
+    best = min(found, default=None)
+    if n <= 4:
+        assert best == fork_by_force(kind, n, cards, start, first, second)
+    return best and (sign * best[0], best[1])
+
+
+def fork_by_force(kind, n, cards, start, first, second):
+    """The same of any three chains that meet in a format, with the sign turned for depths."""
+    sign, combined = (1, sum) if kind == "delay" else (-1, lambda costs: min(costs, default=255))
+    found = []
+    for split in range(n):
+        chains = [chains_by_force(n, cards, *ends) for ends in ((start, split), (split, first), (split, second))]
+        for ways in itertools.product(*chains):
+            found.append((sign * combined([cost for costs, _ in ways for cost in costs]), split))
+    return min(found, default=None)
+
+
+def fork_text(kind, model, start, first, second):
+    for part, format in enumerate((start, first, second)):
+        if format >= model.n:
+            return f"bay 11.{part}"
+    cards = seen(model)
+    if is_loop(kind, model.n, cards):
+        return "loop"
+    found = fork(kind, model.n, cards, start, first, second)
+    return "{} by {}".format(*found) if found else "bay 27.0"
+
+
+def change_text(answer):
+    return "done" if answer == "ok" else f"register {answer}"
+
+
+def call_text(kind, model, legs, call):
+    """What a call is answered; the model and the legs are then as it leaves them."""
+    sort, *args = call
+    if sort == "enter":
+        return change_text(model.enter(*args))
+    if sort == "withdraw":
+        return change_text(model.withdraw(*args))
+    if sort == "book":
+        outside = [part for part, format in enumerate(args) if format >= model.n]
+        if outside:
+            return f"bay 11.{outside[0]}"
+        legs.append(tuple(args))
+        return str(len(legs) - 1)
+    if sort in ("strike", "show"):
+        if args[0] >= len(legs):
+            return "bay 14.0"
+        if sort == "show":
+            return "{} {}".format(*legs[args[0]])
+        del legs[args[0]]
+        return "done"
+    if sort == "route":
+        return route(kind, model.n, seen(model), legs).strip() if legs else "bay 25.0"
+    return fork_text(kind, model, *args)
+
+
+def draw_call(kind, dice, n, spread):
+    sort = dice.below(12)
+    a, b, c = end(dice, n), end(dice, n), end(dice, n)
+    cost = draw(kind, dice, spread)
+    if sort < 2:
+        return "enter", a, b, cost
+    if sort == 2:
+        return "withdraw", a, b
+    if sort < 5:
+        return "book", a, b
+    if sort < 7:
+        return ("strike", "show")[sort - 5], a
+    return ("route",) if sort < 9 else ("fork", a, b, c)
+
+
+def drawn_cards(kind, dice, n):
+    density = 1 + dice.below(6)
+    spread = dice.below(4)
+    for a in range(n):
+        for b in range(n):
+            if a != b and dice.below(6) < density:
+                yield a, b, draw(kind, dice, spread)
+
+
+def play_calls(name, kind, model, calls):
+    print(f"{name}:")
+    legs = []
+    for call in calls:
+        print("  " + " ".join(map(str, call)) + ": " + call_text(kind, model, legs, call))
+    print("  in a list: alike")
+
+
+def fork_trial(kind, number, dice):
+    n = 3 + dice.below(4)
+    calls = [("enter", *card) for card in drawn_cards(kind, dice, n)]
+    spread = dice.below(4)
+    calls += [draw_call(kind, dice, n, spread) for _ in range(14)]
+    name = f"forks of {kind}s {number}"
+    play_calls(f"{name}, matrix", kind, Model(n, n * (n - 1)), calls)
+    play_calls(f"{name}, list", kind, Model(n, 9), calls)
+    barred = Model(n, n * (n - 1))
+    barred.barred = {1}
+    play_calls(f"{name}, under a bar", kind, barred, calls)
+    turned_round = Model(n, 9)
+    turned_round.turned = True
+    play_calls(f"{name}, from the outputs", kind, turned_round, calls)
+
+
+def fork_trials():
+    dice = Dice(35)
+    for number in range(4):
+        fork_trial("delay", number, dice)
+        fork_trial("depth", number, dice)
+
+
 play_registers()
 trials()
 fixed_cases()
 house_rows()
 short_memory()
 customer_tables()
+fork_trials()

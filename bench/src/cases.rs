@@ -7,7 +7,7 @@ pub enum Kind {
 }
 
 #[repr(C)]
-#[derive(Clone, Copy, PartialEq)]
+#[derive(Clone, Copy, Debug, PartialEq)]
 pub struct Leg {
     pub from: usize,
     pub to: usize,

@@ -1,8 +1,9 @@
-//! Times the route call beside other libraries and code by hand.
+//! Times the route call beside other libraries and code by hand, and the fork call beside it.
 //!
 //!     bench                                     the tables
 //!     bench one PEER/KIND/N/CARDS/LEGS TIMES    so many calls, to count their instructions; CARDS is sparse or complete
 //!     bench rows                                how many rows the first stage goes through, and the time of a route
+//!     bench forks                               the time of a fork, beside that of a route with two legs
 //!     bench ticket                              writes the largest ticket
 //!     bench program PROGRAM TICKET              times whole runs of the program on it
 
@@ -62,6 +63,11 @@ impl Run {
         }
         Run { name, peer, calls, nanoseconds: f64::INFINITY }
     }
+
+    // Another batch. The best one counts.
+    fn measure(&mut self) {
+        self.nanoseconds = self.nanoseconds.min(seconds(&mut self.peer, self.calls) / self.calls as f64 * 1e9);
+    }
 }
 
 impl Group {
@@ -90,12 +96,9 @@ impl Group {
         Group { kind, n, complete, runs }
     }
 
-    // Another batch of each. The best one counts.
+    // Another batch of each.
     fn measure(&mut self) {
-        for run in &mut self.runs {
-            let nanoseconds = seconds(&mut run.peer, run.calls) / run.calls as f64 * 1e9;
-            run.nanoseconds = run.nanoseconds.min(nanoseconds);
-        }
+        self.runs.iter_mut().for_each(Run::measure);
     }
 
     fn of(&self, name: &str) -> f64 {
@@ -196,11 +199,31 @@ fn rows() {
         let rows = cases[0].rows();
         let mut runs = cases.each_ref().map(|case| Run::new("1", peer("ours", case)));
         for _ in 0..ROUNDS {
-            for run in &mut runs {
-                run.nanoseconds = run.nanoseconds.min(seconds(&mut run.peer, run.calls) / run.calls as f64 * 1e9);
-            }
+            runs.iter_mut().for_each(Run::measure);
         }
         println!("{percent:3} % {rows:8} {:11.0} {:11.0}", runs[0].nanoseconds, runs[1].nanoseconds);
+    }
+}
+
+// An input split over two outputs, beside a route from the input to both.
+fn forks() {
+    println!("nanoseconds of a fork at 64 formats, and of a route with two legs from its input; x is fork / route");
+    println!("kind   cards        fork       route      x");
+    for (kind, name) in [(Kind::Delay, "delay"), (Kind::Depth, "depth")] {
+        for complete in [false, true] {
+            let cards = cards(64, complete);
+            let mut case = Case::new(kind, 64, cards, 2);
+            case.legs[1].from = case.legs[0].from;
+            let mut runs = ["fork", "ours"].map(|name| Run::new(name, peer(name, &case)));
+            for run in &mut runs {
+                assert!((run.peer)(Some(case.legs[0])).is_some(), "{}: no chain", run.name);
+            }
+            for _ in 0..ROUNDS {
+                runs.iter_mut().for_each(Run::measure);
+            }
+            let [fork, route] = runs.map(|run| run.nanoseconds);
+            println!("{name} {cards:6} {fork:11.0} {}", beside(fork, route));
+        }
     }
 }
 
@@ -241,8 +264,9 @@ fn main() {
         [] => tables(),
         ["one", name, times] => one(name, times.parse().unwrap()),
         ["rows"] => rows(),
+        ["forks"] => forks(),
         ["ticket"] => print!("{}", largest().ticket()),
         ["program", path, ticket] => program(path, ticket),
-        _ => panic!("bench [one NAME TIMES | rows | ticket | program PROGRAM TICKET]"),
+        _ => panic!("bench [one NAME TIMES | rows | forks | ticket | program PROGRAM TICKET]"),
     }
 }

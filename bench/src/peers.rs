@@ -11,6 +11,10 @@ pub type Peer = Box<dyn FnMut(Option<Leg>) -> Option<i32>>;
 
 type Route<C> = unsafe extern "C" fn(usize, *const C, usize, *const Leg, usize, *mut C, usize, *mut u8, usize) -> u32;
 
+type Fork<C> = unsafe extern "C" fn(
+    usize, *const C, usize, usize, usize, usize, *mut C, usize, *mut u8, usize, *mut usize,
+) -> u32;
+
 #[repr(C)]
 struct Graph([u8; 0]);
 
@@ -20,6 +24,10 @@ extern "C" {
         costs: *mut i32, costs_len: usize, chains: *mut u8, chains_len: usize) -> u32;
     fn hurzelma_route_depth(n: usize, cards: *const u8, cards_len: usize, legs: *const Leg, legs_len: usize,
         costs: *mut u8, costs_len: usize, chains: *mut u8, chains_len: usize) -> u32;
+    fn hurzelma_fork_delay(n: usize, cards: *const i32, cards_len: usize, input: usize, first: usize, second: usize,
+        costs: *mut i32, costs_len: usize, chains: *mut u8, chains_len: usize, split: *mut usize) -> u32;
+    fn hurzelma_fork_depth(n: usize, cards: *const u8, cards_len: usize, input: usize, first: usize, second: usize,
+        costs: *mut u8, costs_len: usize, chains: *mut u8, chains_len: usize, split: *mut usize) -> u32;
     fn boost_new(n: usize, from: *const i32, to: *const i32, cost: *const i32, cards: usize) -> *mut Graph;
     fn boost_floyd(graph: *const Graph, distances: *mut i32);
     fn boost_floyd_plus(graph: *const Graph, distances: *mut i32);
@@ -32,6 +40,8 @@ pub fn peer(name: &str, case: &Case) -> Peer {
     match (name, case.kind) {
         ("ours", Kind::Delay) => ours(case, hurzelma_route_delay, case.matrix(i32::MIN), 0, Add::add),
         ("ours", Kind::Depth) => ours(case, hurzelma_route_depth, depths(case), 255, Ord::min),
+        ("fork", Kind::Delay) => fork(case, hurzelma_fork_delay, case.matrix(i32::MIN), 0, Add::add),
+        ("fork", Kind::Depth) => fork(case, hurzelma_fork_depth, depths(case), 255, Ord::min),
         ("hand", Kind::Delay) => hand_floyd(case),
         ("hand", Kind::Depth) => hand_widest(case),
         ("boost", Kind::Delay) => boost(case, i32::MAX, |graph, out| unsafe { boost_floyd(graph, out) }),
@@ -74,20 +84,58 @@ fn ours<C: Copy + Default + Into<i32> + 'static>(
         // The leg's row must hold a chain of its cost.
         let leg = asked?;
         let k = legs.iter().position(|&other| other == leg).unwrap();
-        let cost = costs[k].into();
-        let (count, row) = chains[ROW * k..][..ROW].split_first().unwrap();
-        let (chain, rest) = row.split_at(*count as usize);
-        assert!(rest.iter().all(|&byte| byte == 255), "leg {k}: the row's rest is not 255");
-        let [first, .., last] = *chain else {
-            assert_eq!((chain.len(), cost), (0, unit), "leg {k}: no chain");
-            return None;
-        };
-        assert_eq!((first as usize, last as usize), (leg.from, leg.to), "leg {k}: the chain's ends");
-        let hops = chain.windows(2).map(|pair| standing[pair[0] as usize * n + pair[1] as usize]);
-        assert!(hops.clone().all(|card| card != i32::MIN), "leg {k}: the chain has a pair without a card");
-        assert_eq!(hops.fold(unit, combine), cost, "leg {k}: the chain's cost");
-        Some(cost)
+        let found = chain_cost(&chains[ROW * k..][..ROW], leg, &standing, n, unit, combine);
+        assert_eq!(found.unwrap_or(unit), costs[k].into(), "leg {k}: the chain's cost");
+        found
     })
+}
+
+// The fork call: the total and three chains. Its input is where the first leg begins, and its outputs are where the first two end.
+fn fork<C: Copy + Default + Into<i32> + 'static>(
+    case: &Case,
+    fork: Fork<C>,
+    cards: Vec<C>,
+    unit: i32,
+    combine: fn(i32, i32) -> i32,
+) -> Peer {
+    let (n, input, outputs) = (case.n, case.legs[0].from, [case.legs[0].to, case.legs[1].to]);
+    let standing = case.matrix(i32::MIN);
+    let mut total = C::default();
+    let mut chains = [0; 3 * ROW];
+    let mut split = n;
+    Box::new(move |asked| {
+        let (out, rows, [first, second]) = (&mut total, chains.as_mut_ptr(), outputs);
+        let refused = unsafe {
+            fork(n, cards.as_ptr(), cards.len(), input, first, second, out, 1, rows, chains.len(), &mut split)
+        };
+        assert_eq!(refused, 0, "the fork call is refused");
+        asked?;
+        // The rows must hold chains by way of the split, and the total be what they cost.
+        let legs = [(input, split), (split, first), (split, second)].map(|(from, to)| Leg { from, to });
+        let costs = legs.iter().zip(chains.chunks_exact(ROW));
+        let costs = costs.map(|(&leg, row)| chain_cost(row, leg, &standing, n, unit, combine).expect("a chain"));
+        assert_eq!(costs.fold(unit, combine), total.into(), "the total");
+        Some(total.into())
+    })
+}
+
+// What the chain in a row costs, which must be one for the leg; none where the row has none.
+fn chain_cost(
+    row: &[u8],
+    leg: Leg,
+    standing: &[i32],
+    n: usize,
+    unit: i32,
+    combine: fn(i32, i32) -> i32,
+) -> Option<i32> {
+    let (count, row) = row.split_first().unwrap();
+    let (chain, rest) = row.split_at(*count as usize);
+    assert!(rest.iter().all(|&byte| byte == 255), "{leg:?}: the row's rest is not 255");
+    let (first, last) = (*chain.first()?, *chain.last()?);
+    assert_eq!((first as usize, last as usize), (leg.from, leg.to), "{leg:?}: the chain's ends");
+    let hops = chain.windows(2).map(|pair| standing[pair[0] as usize * n + pair[1] as usize]);
+    assert!(hops.clone().all(|card| card != i32::MIN), "{leg:?}: the chain has a pair without a card");
+    Some(hops.fold(unit, combine))
 }
 
 // No distance; sums with it do not overflow.

@@ -1,6 +1,6 @@
 -- A route over cards that are turned round finds loops and costs as one over the cards as they stand: each walk leads back at its cost.
 -- That both keep the promises of a route is taken from their answers; nothing of how a route is made is looked at.
-use Rattle.std.proofs.Common.{◌≡◌, ℕ, suc, ◌⊎◌, List, [], ◌∷◌, ◌++◌, length, get_or, is_some, None, Option, sym, ap, ◌∙◌, inl, inr, arith, refl, false, true}
+use Rattle.std.proofs.Common.{◌≡◌, ℕ, suc, ◌⊎◌, List, [], ◌∷◌, length, get_or, is_some, None, Option, sym, ap, ◌∙◌, inl, inr, arith, refl, false, true}
 use Rattle.std.proofs.lemmas.Bool.{false≢true}
 use Rattle.costs.specs.declared.Cost.{Ghosts as Kind}
 use Rattle.costs.specs.Algebra.{Algebra, Lawful}

@@ -19,6 +19,8 @@ pub mod Granted
 pub mod SlotSteps
 pub mod RouteSteps
 pub mod RouteCall
+pub mod SplitSteps
+pub mod SplitCall
 pub mod Answering
 pub mod OneAfterOther
 pub mod RunSteps

@@ -1,11 +1,8 @@
 -- Calls that are made one after the other keep the law: by recursion over the calls, since the plain bay and the legs after the
 -- first call are where the rest begins.
-use Rattle.std.proofs.Common.{◌≡◌, ℕ, zero, suc, List, [], ◌∷◌, map, get_or, take, sym, refl, ap, ◌∙◌, subst₂, le_of_suc-le-suc, arith}
+use Rattle.std.proofs.Common.{zero, suc, [], ◌∷◌, map, get_or, take, refl, subst₂, le_of_suc-le-suc, arith}
 use Rattle.costs.specs.declared.Cost.{Ghosts as Kind}
-use Rattle.bay.specs.Calls.{Called, Made}
-use Rattle.bay.specs.Plain.{Plain}
 use Rattle.bay.specs.Runs.{OneByOne, Right, call_of, legs_after, no_call, plain_after}
-use Rattle.bay.specs.declared.legs.Leg.{Leg}
 use Rattle.bay.proofs.Answering.{told}
 
 pub one_by_one : {C : Type 0} (K : Kind C) → OneByOne K

@@ -8,7 +8,7 @@ use Rattle.std.proofs.Math.Seq.{drop-cons, set-append_seam, take-add}
 use Rattle.std.proofs.lemmas.List.Sums.{sum_by-append, sum_by_push}
 use Rattle.std.specs.List.{All, flat_map}
 use Rattle.std.proofs.lemmas.Grind.{flat_map-append}
-use Rattle.std.proofs.lemmas.List.{drop-append-le, drop-drop, drop_at, length-drop, length-take-le, take-append-drop, take_all, take_at, take_more, map-append}
+use Rattle.std.proofs.lemmas.List.{drop-drop, drop_at, length-drop, length-take-le, take-append-drop, take_all, take_at, take_more, map-append}
 use Rattle.std.proofs.lemmas.Bool.{ltb-false}
 use Rattle.std.proofs.lemmas.List.Elements.{All-cons, All-nil, All-push}
 use Rattle.costs.specs.declared.Cost.{Ghosts as Kind}
@@ -16,13 +16,12 @@ use Rattle.registers.specs.Fault.{after, code, first_cause}
 use Rattle.registers.specs.declared.fault.Layer.TheVariants.{Bay}
 use Rattle.registers.specs.declared.fault.Code.{Code}
 use Rattle.bay.specs.Buffers.{Buffers, buffers, in_front}
-use Rattle.bay.specs.Calls.{Called, Made, legs_step}
-use Rattle.bay.specs.Legs.{struck}
+use Rattle.bay.specs.Calls.{Called, Made}
 use Rattle.bay.specs.Limits.{most_legs}
 use Rattle.bay.specs.Plain.{Plain, granted, step}
 use Rattle.bay.specs.Runs.{InPart, Leaves, OneAfterOther, PassesOn, Ran, WholePart, InWholePart, answer_of, call_of, chains_found, chains_left, costs_found, costs_left, legs_after, own, part_bytes, parts, plain_after, put_at, run_causes, takes_part}
 use Rattle.bay.specs.declared.calls.Call.{Call}
-use Rattle.bay.specs.declared.calls.Call.TheVariants.{Enter, Withdraw, Book, Strike, Show, Route}
+use Rattle.bay.specs.declared.calls.Call.TheVariants.{Enter, Withdraw, Book, Strike, Show, Route, Fork}
 use Rattle.bay.specs.declared.cells.Cell.{Cell}
 use Rattle.bay.specs.declared.legs.Leg.{Leg}
 use Rattle.bay.specs.declared.calls.Answer.{Answer}
@@ -36,36 +35,20 @@ count call = cond (takes_part call) 1 0
 
 -- what a call has of a sheet: all, or nothing
 pub own_all : {C X : Type 0} (call : Call C) (xs : List X) → takes_part call ≡ true → own call xs ≡ xs
-own_all Route xs e = refl
-own_all (Enter a b x) xs e = cc
-own_all (Withdraw a b) xs e = cc
-own_all (Book a b) xs e = cc
-own_all (Strike k) xs e = cc
-own_all (Show k) xs e = cc
+own_all call xs e = ap (λ part. cond part xs []) e
 
 pub own_none : {C X : Type 0} (call : Call C) (xs : List X) → takes_part call ≡ false → own call xs ≡ []
-own_none Route xs e = cc
-own_none (Enter a b x) xs e = refl
-own_none (Withdraw a b) xs e = refl
-own_none (Book a b) xs e = refl
-own_none (Strike k) xs e = refl
-own_none (Show k) xs e = refl
+own_none call xs e = ap (λ part. cond part xs []) e
 
 whole_by : {C : Type 0} (call : Call C) (m : Buffers C) → (takes_part call ≡ true → (length (own call m.costs) ≡ most_legs) × (length (own call m.chains) ≡ part_bytes)) → WholePart call m
-whole_by Route m h = h refl
-whole_by (Enter a b x) m h = tt
-whole_by (Withdraw a b) m h = tt
-whole_by (Book a b) m h = tt
-whole_by (Strike k) m h = tt
-whole_by (Show k) m h = tt
+whole_by call m h t = (ap length (sym (own_all call m.costs t)) ∙ (h t).0, ap length (sym (own_all call m.chains t)) ∙ (h t).1)
 
 pub own_long : {C X : Type 0} (call : Call C) (xs ys : List X) → length xs ≡ length ys → length (own call xs) ≡ length (own call ys)
-own_long Route xs ys e = e
-own_long (Enter a b x) xs ys e = refl
-own_long (Withdraw a b) xs ys e = refl
-own_long (Book a b) xs ys e = refl
-own_long (Strike k) xs ys e = refl
-own_long (Show k) xs ys e = refl
+own_long {X} call xs ys e = long (takes_part call)
+  where
+    long : (part : Bool) → length (cond part xs []) ≡ length (cond part ys [])
+    long true = e
+    long false = refl
 
 -- a sheet whose part was written, in which a call works
 pub part_put : {C X : Type 0} (call : Call C) (a w : ℕ) (old new : List X) → takes_part call ≡ true → a + w ≤ length old → length new ≡ length (take (a + w - a) (drop a old)) →
@@ -136,6 +119,7 @@ module _ {C : Type 0} {K : Kind C} where
   granted_size p (Strike k) = refl
   granted_size p (Show k) = refl
   granted_size p Route = refl
+  granted_size p (Fork a b c) = refl
 
   step_size : (p : Plain K) (call : Call C) → (step p call).register.size ≡ p.register.size
   step_size p call = after_size _ p _ (granted_size p call)

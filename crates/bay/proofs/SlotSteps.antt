@@ -7,7 +7,6 @@ use Rattle.std.proofs.lemmas.List.{get_or_default, get_or_past, get_or-set_same,
 use Rattle.std.proofs.lemmas.Bool.{cases_lt, cases_eq}
 use Rattle.std.specs.List.{All}
 use Rattle.costs.specs.declared.Cost.{Ghosts as Kind}
-use Rattle.costs.specs.Algebra.{Algebra}
 use Rattle.bay.specs.Sheet.{put_row, row_of, row_bytes}
 use Rattle.bay.proofs.Sheets.{length_put_row, length_row_of, row_at_put_row, row_at_put_row_other, get_or_put_row_above}
 use Rattle.bay.specs.Leg.{no_leg, noted}

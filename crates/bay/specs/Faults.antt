@@ -5,12 +5,13 @@ use Rattle.registers.specs.declared.fault.Layer.TheVariants.{Bay}
 use Rattle.registers.specs.declared.fault.RegisterFault.{RegisterFault}
 use Rattle.registers.specs.Fault.{code, register_code}
 use Rattle.bay.specs.declared.fault.BayFault.{BayFault}
-use Rattle.bay.specs.declared.fault.BayFault.TheVariants.{Register, FromOutside, ToOutside, NoLeg, TableShort, CostsShort, ChainsShort, AnswersShort, LegsFull, NoLegs, Loop}
+use Rattle.bay.specs.declared.fault.BayFault.TheVariants.{Register, FromOutside, ToOutside, SecondOutside, NoLeg, TableShort, CostsShort, ChainsShort, AnswersShort, LegsFull, NoLegs, Loop, NoSplit}
 
 abbrev pub bay_code : BayFault → Code
 bay_code (Register f) = register_code f
 bay_code FromOutside = code Bay 11 0
 bay_code ToOutside = code Bay 11 1
+bay_code SecondOutside = code Bay 11 2
 bay_code NoLeg = code Bay 14 0
 bay_code TableShort = code Bay 15 0
 bay_code CostsShort = code Bay 15 1
@@ -19,6 +20,7 @@ bay_code AnswersShort = code Bay 15 3
 bay_code LegsFull = code Bay 24 0
 bay_code NoLegs = code Bay 25 0
 bay_code Loop = code Bay 26 0
+bay_code NoSplit = code Bay 27 0
 
 -- a register's fault as the bay's
 abbrev pub carried : RegisterFault → BayFault

@@ -2,7 +2,6 @@
 -- sheet.
 use Rattle.std.specs.Prelude.{◌≡◌, ℕ, ◌*◌, ◌<◌, ◌≤◌, ◌⊎◌, List, [], map, length, get_or, Option, ◌≢◌, slice_index_or}
 use Rattle.costs.specs.declared.Cost.{Ghosts as Kind}
-use Rattle.costs.specs.Algebra.{Algebra}
 use Rattle.bay.specs.Sheet.{row_at, row_of}
 use Rattle.bay.specs.Tracing.{Follows}
 use Rattle.bay.specs.Leg.{no_leg}

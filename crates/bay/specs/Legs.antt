@@ -1,9 +1,7 @@
 -- The legs that a bay holds: the first `count` of its array.
-use Rattle.std.specs.Prelude.{ℕ, suc, List, ◌++◌, map, take, drop}
-use Rattle.bay.specs.Leg.{noted}
+use Rattle.std.specs.Prelude.{ℕ, suc, List, ◌++◌, take, drop}
 use Rattle.bay.specs.declared.legs.Leg.{Leg}
 use Rattle.bay.specs.declared.legs.Legs.{Legs}
-use Rattle.bay.specs.declared.legs.Note.TheVariants.{Open}
 
 -- the legs of a bay, by number
 abbrev pub booked : Legs → List Leg

@@ -8,6 +8,7 @@ pub mod Bays
 pub mod Routes
 pub mod Buffers
 pub mod Routing
+pub mod Splits
 pub mod Calls
 pub mod RowsPassed
 pub mod Runs
@@ -19,4 +20,6 @@ pub mod GoalTables
 pub mod Eliminated
 pub mod Solved
 pub mod LegSlots
+pub mod SplitTables
+pub mod LeastTables
 pub mod RouteWriters

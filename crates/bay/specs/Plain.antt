@@ -12,7 +12,7 @@ use Rattle.bay.specs.Sheet.{row_bytes}
 use Rattle.bay.specs.declared.legs.Ends.{Ends}
 use Rattle.bay.specs.declared.legs.Leg.{Leg}
 use Rattle.bay.specs.declared.calls.Call.{Call}
-use Rattle.bay.specs.declared.calls.Call.TheVariants.{Enter, Withdraw, Book, Strike, Show, Route}
+use Rattle.bay.specs.declared.calls.Call.TheVariants.{Enter, Withdraw, Book, Strike, Show, Route, Fork}
 
 -- the ends of a booked leg
 abbrev pub ends : Leg → Ends
@@ -55,7 +55,7 @@ module _ {C : Type 0} {K : Kind C} where
   abbrev pub leg_causes : Plain K → ℕ → List (Bool × Code)
   leg_causes p k = (nat_le (length p.legs) k, code Bay 14 0) ∷ []
 
-  -- Why a call is refused. Of a route this says nothing: its causes speak of the memory that it is lent too.
+  -- Why a call is refused. Of a route and a fork this says nothing: their causes speak of the memory that they are lent too.
   abbrev pub call_causes : Plain K → Call C → List (Bool × Code)
   call_causes p (Enter a b x) = enter_causes p.register a b (admits K x)
   call_causes p (Withdraw a b) = withdraw_causes p.register a b
@@ -63,6 +63,7 @@ module _ {C : Type 0} {K : Kind C} where
   call_causes p (Strike k) = leg_causes p k
   call_causes p (Show k) = leg_causes p k
   call_causes p Route = []
+  call_causes p (Fork a b c) = []
 
   -- the fault of the first cause that holds, if one does
   abbrev pub verdict : Plain K → Call C → Option Code
@@ -76,7 +77,8 @@ module _ {C : Type 0} {K : Kind C} where
   granted p (Strike k) = with_legs p (struck k p.legs)
   granted p (Show k) = p
   granted p Route = p
+  granted p (Fork a b c) = p
 
-  -- What a call makes of the plain bay: a refused call, a show and a route change nothing.
+  -- What a call makes of the plain bay: a refused call, a show, a route and a fork change nothing.
   abbrev pub step : Plain K → Call C → Plain K
   step p call = after (verdict p call) p (granted p call)

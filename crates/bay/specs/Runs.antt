@@ -1,5 +1,5 @@
 -- The law over whole runs: what every call is answered, by the plain bay as that call finds it.
-use Rattle.std.specs.Prelude.{◌≡◌, ℕ, ◌+◌, ◌*◌, ◌<◌, Bool, true, false, ◌⊎◌, List, [], ◌∷◌, ◌++◌, map, length, take, drop, count_by, All, Some, None, Option, slice_index_or, nat_lt}
+use Rattle.std.specs.Prelude.{◌≡◌, ℕ, ◌+◌, ◌*◌, ◌<◌, Bool, true, false, cond, ◌⊎◌, List, [], ◌∷◌, ◌++◌, map, length, take, drop, count_by, All, Some, None, slice_index_or, nat_lt}
 use Rattle.std.specs.List.{flat_map}
 use Rattle.costs.specs.declared.Cost.{Ghosts as Kind}
 use Rattle.registers.specs.Fault.{code, first_cause}
@@ -8,19 +8,21 @@ use Rattle.registers.specs.declared.fault.Code.{Code}
 use Rattle.registers.specs.declared.fault.Layer.TheVariants.{Bay}
 use Rattle.walks.specs.Walk.{Gains}
 use Rattle.bay.specs.Buffers.{Buffers, Wrote, buffers, in_front}
-use Rattle.bay.specs.Calls.{Made, Judged, Called, keeps_register, made, legs_step}
+use Rattle.bay.specs.Calls.{Made, Judged, Called, ForkTold, keeps_register, made, legs_step}
 use Rattle.bay.specs.Faults.{bay_code}
 use Rattle.bay.specs.Limits.{most_legs}
 use Rattle.bay.specs.Plain.{Plain, step}
 use Rattle.bay.specs.Routes.{LoopIn}
 use Rattle.bay.specs.Routing.{LeastChainsIn, route_causes}
 use Rattle.bay.specs.Sheet.{row_at, row_bytes}
+use Rattle.bay.specs.Splits.{split_rows}
 use Rattle.bay.specs.declared.calls.Answer.{Answer}
-use Rattle.bay.specs.declared.calls.Answer.TheVariants.{Entered, Routed, Looped, Refused}
+use Rattle.bay.specs.declared.calls.Answer.TheVariants.{Entered, Routed, Forked, Looped, Refused}
 use Rattle.bay.specs.declared.calls.Call.{Call}
-use Rattle.bay.specs.declared.calls.Call.TheVariants.{Route}
+use Rattle.bay.specs.declared.calls.Call.TheVariants.{Route, Fork}
 use Rattle.bay.specs.declared.cells.Cell.{Cell}
 use Rattle.bay.specs.declared.fault.BayFault.{BayFault}
+use Rattle.bay.specs.declared.fault.BayFault.TheVariants.{NoSplit}
 use Rattle.bay.specs.declared.legs.Leg.{Leg}
 
 module _ {C : Type 0} where
@@ -51,6 +53,7 @@ module _ {C : Type 0} {K : Kind C} where
   RightFor Route p legs m =
       ((f : BayFault) × (m.answer ≡ Refused f) × (first_cause (route_causes p m.before) ≡ Some (bay_code f))) ⊎
       ((first_cause (route_causes p m.before) ≡ None) × RouteRight p m)
+  RightFor (Fork a b c) p legs m = ForkTold p m a b c
   RightFor call p legs m = Judged p legs call m.answer
 
   -- the answer to a call is that of the plain bay p, whose legs have these notes
@@ -63,7 +66,7 @@ module _ {C : Type 0} {K : Kind C} where
   plain_after p (call ∷ calls) = plain_after (step p call) calls
 
   -- The law: at every place, the answer is the plain bay's, as the calls before that place leave it. So each route finds a loop
-  -- exactly where a closed walk undercuts the unit, and else least chains that agree.
+  -- exactly where a closed walk undercuts the unit, and else least chains that agree, and each fork the cheapest split.
   abbrev pub Law : Plain K → List Leg → List (Made C) → Type 0
   Law p legs ms = (i : ℕ) → i < length ms →
       Right (plain_after p (take i (map call_of ms))) (legs_after legs (take i ms)) (slice_index_or ms i no_call)
@@ -90,6 +93,7 @@ module _ {C : Type 0} where
   -- the call works in a part of the sheets
   abbrev pub takes_part : Call C → Bool
   takes_part Route = true
+  takes_part (Fork a b c) = true
   takes_part call = false
 
   -- how many parts a list of calls takes
@@ -104,8 +108,7 @@ module _ {C : Type 0} where
 
   -- a call that works in a part of the sheets is lent a whole one
   abbrev pub WholePart : Call C → Buffers C → Type 0
-  WholePart Route m = (length m.costs ≡ most_legs) × (length m.chains ≡ part_bytes)
-  WholePart call m = Unit {0}
+  WholePart call m = takes_part call ≡ true → (length m.costs ≡ most_legs) × (length m.chains ≡ part_bytes)
 
   abbrev pub InWholePart : Made C → Type 0
   InWholePart m = WholePart m.call m.before
@@ -116,8 +119,7 @@ module _ {C : Type 0} where
 
   -- the part of a sheet that a call works in, if it does
   abbrev pub own : {X : Type 0} → Call C → List X → List X
-  own Route sheet = sheet
-  own call sheet = []
+  own call sheet = cond (takes_part call) sheet []
 
   -- the parts of a list of calls one after the other, each as its call found it, or left it
   abbrev pub costs_found : List (Made C) → List C
@@ -137,9 +139,11 @@ module _ {C : Type 0} where
   PassesOn table [] table' = table' ≡ table
   PassesOn table (m ∷ ms) table' = (m.before.table ≡ table) × PassesOn m.after.table ms table'
 
-  -- what an answer leaves: only the n × n cells, and a route's costs and rows or the row of a loop, are written
+  -- what an answer leaves: only the n × n cells, and a route's or a fork's costs and rows or the row of a loop, are written
   abbrev pub LeftBy : Answer → ℕ → Buffers C → Buffers C → Type 0
   LeftBy (Routed legs) n before after = Wrote (n * n) legs (row_bytes * legs) before after
+  LeftBy (Forked m) n before after = Wrote (n * n) 1 (row_bytes * split_rows) before after
+  LeftBy (Refused NoSplit) n before after = Wrote (n * n) 0 0 before after
   LeftBy Looped n before after = Wrote (n * n) 0 row_bytes before after
   LeftBy answer n before after = after ≡ before
 

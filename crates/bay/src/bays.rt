@@ -16,6 +16,7 @@ use crate::legs::{Leg, Legs, MOST_LEGS, Note};
 use crate::negative_cycle::write_loop;
 use crate::routes::write_routes;
 use crate::sets::FormatSet;
+use crate::splits::{Branches, fork_over};
 use crate::substitution::solve_to;
 use crate::survey::solve;
 use crate::writing::RouteWriter;
@@ -37,6 +38,7 @@ impl<R: Register> Bay<R> {
     ghost use Rattle.bay.specs.Calls.{Called, keeps_register, made};
     ghost use Rattle.bay.specs.Plain.{step, verdict};
     ghost use Rattle.bay.specs.Routing.{RouteAnswer, route_causes};
+    ghost use Rattle.bay.specs.Splits.{ForkAnswer};
     ghost use Rattle.bay.specs.Runs.{AllKeepRegister, InPart, Ran, part_bytes, run_causes, takes_part};
     ghost use Rattle.bay.specs.declared.calls.Call.TheVariants.{Enter, Withdraw, Book, Strike, Show};
 
@@ -204,7 +206,32 @@ impl<R: Register> Bay<R> {
         }
     }
 
-    // Any one call with its answer. Only a route works in the table and the sheets.
+    // Where one input is best split over two outputs: the lowest of the formats at which the chain from the input and the chains on to
+    // both outputs cost least together. These chains have rows 0 to 2 of the chain sheet, and the first entry of the cost sheet has
+    // what they cost. It does not matter what the table and the sheets hold.
+    pub fn fork(
+        &self,
+        input: Format,
+        first: Format,
+        second: Format,
+        table: &mut [Cell<R::Cost>],
+        costs: &mut [R::Cost],
+        chains: &mut [u8],
+    ) -> Result<Format, BayFault>
+        ensures answer { let before = buffers table.old costs.old chains.old in
+            let after = buffers table.new costs.new chains.new in
+            let cards = (plain self.now).register in
+            ForkAnswer R.Cost.Cost cards input first second before after result }
+    {
+        let branches = Branches {
+            input,
+            first,
+            second,
+        };
+        fork_over(&self.register, branches, table, costs, chains)
+    }
+
+    // Any one call with its answer. Only a route and a fork work in the table and the sheets.
     pub fn call(
         &mut self,
         call: Call<R::Cost>,
@@ -237,10 +264,15 @@ impl<R: Register> Bay<R> {
                 Err(fault) => Answer::Refused(fault),
             },
             Call::Route => Answer::of_route(self.route(table, costs, chains)),
+            Call::Fork {
+                input,
+                first,
+                second,
+            } => Answer::of_fork(self.fork(input, first, second, table, costs, chains)),
         }
     }
 
-    // One call of a list. A route works in its part of the sheets, and any other call in no part of them.
+    // One call of a list. A route or a fork works in its part of the sheets, and any other call in no part of them.
     fn call_in_part(
         &mut self,
         call: Call<R::Cost>,
@@ -268,7 +300,7 @@ impl<R: Register> Bay<R> {
     }
 
     // A list of calls, in their order, each with its answer: call i has place i of the answers. Every answer is the plain bay's,
-    // whatever came before it. The routes work in the one table, and each in a part of the sheets of its own, one after the other:
+    // whatever came before it. Routes and forks work in the one table, and each in a part of the sheets of its own, one after the other:
     // `MOST_LEGS` cost entries, and `CHAIN_BYTES` of the chain sheet. Where the sheets or the answers are too short for that, no
     // call is made.
     pub fn run(

@@ -10,20 +10,39 @@ use registers::Format;
 // So many bytes have the rows of all the legs that a bay may have.
 pub const CHAIN_BYTES: usize = ROW * MOST_LEGS;
 
-// A call with its arguments, as data: a host hands in a list of them and may keep it, so it is no closure. `Route` works in the
-// table and the sheets that are handed in with it.
+// A call with its arguments, as data: a host hands in a list of them and may keep it, so it is no closure. `Route` and `Fork` work in
+// the table and the sheets that are handed in with them.
 #[derive(Clone, Copy, Debug, PartialEq, Eq)]
 pub enum Call<C> {
-    Enter { from: Format, to: Format, cost: C },
-    Withdraw { from: Format, to: Format },
-    Book { from: Format, to: Format },
-    Strike { leg: usize },
-    Show { leg: usize },
+    Enter {
+        from: Format,
+        to: Format,
+        cost: C,
+    },
+    Withdraw {
+        from: Format,
+        to: Format,
+    },
+    Book {
+        from: Format,
+        to: Format,
+    },
+    Strike {
+        leg: usize,
+    },
+    Show {
+        leg: usize,
+    },
     Route,
+    Fork {
+        input: Format,
+        first: Format,
+        second: Format,
+    },
 }
 
-// What came of a call. What a route found stands in the sheets that it was lent: the costs and rows of so many legs, or a loop in
-// row 0.
+// What came of a call. What a route or a fork found stands in the sheets that it was lent: the costs and rows of so many legs, the total
+// and the rows of a split, or a loop in row 0.
 #[derive(Clone, Copy, Debug, PartialEq, Eq)]
 pub enum Answer {
     Entered,
@@ -32,6 +51,8 @@ pub enum Answer {
     Struck,
     Shown(Leg),
     Routed(usize),
+    // The format of the cheapest split.
+    Forked(Format),
     // A closed walk undercuts the unit.
     Looped,
     Refused(BayFault),
@@ -44,12 +65,12 @@ impl<C> Call<C> {
     pub fn takes_part(&self) -> bool
         ensures { result ≡ takes_part self.now }
     {
-        matches!(self, Call::Route)
+        matches!(self, Call::Route | Call::Fork { .. })
     }
 }
 
 impl Answer {
-    ghost use Rattle.bay.specs.Calls.{of_route};
+    ghost use Rattle.bay.specs.Calls.{of_fault, of_fork, of_route};
 
     // The answer to a call that, where it is granted, is answered so.
     pub(crate) fn of_done(done: Result<(), BayFault>, granted: Answer) -> Answer
@@ -61,14 +82,33 @@ impl Answer {
         }
     }
 
+    // The answer to a route or a fork that is refused: a loop is told as one.
+    fn of_fault(fault: BayFault) -> Answer
+        ensures { result ≡ of_fault fault }
+    {
+        match fault {
+            BayFault::Loop => Answer::Looped,
+            fault => Answer::Refused(fault),
+        }
+    }
+
     // The answer that tells what a route answered.
     pub(crate) fn of_route(routed: Result<usize, BayFault>) -> Answer
         ensures { result ≡ of_route routed }
     {
         match routed {
             Ok(legs) => Answer::Routed(legs),
-            Err(BayFault::Loop) => Answer::Looped,
-            Err(fault) => Answer::Refused(fault),
+            Err(fault) => Answer::of_fault(fault),
+        }
+    }
+
+    // The answer that tells what a fork answered.
+    pub(crate) fn of_fork(forked: Result<Format, BayFault>) -> Answer
+        ensures { result ≡ of_fork forked }
+    {
+        match forked {
+            Ok(split) => Answer::Forked(split),
+            Err(fault) => Answer::of_fault(fault),
         }
     }
 }

@@ -12,6 +12,8 @@ pub enum BayFault {
     Register(RegisterFault),
     FromOutside,
     ToOutside,
+    // The second output of a fork.
+    SecondOutside,
     NoLeg,
     TableShort,
     CostsShort,
@@ -21,6 +23,8 @@ pub enum BayFault {
     NoLegs,
     // A closed walk undercuts the unit.
     Loop,
+    // No walk leads from a fork's input to one of its outputs.
+    NoSplit,
 }
 
 impl BayFault {
@@ -32,6 +36,7 @@ impl BayFault {
             BayFault::Register(fault) => return fault.code(),
             BayFault::FromOutside => (11, 0),
             BayFault::ToOutside => (11, 1),
+            BayFault::SecondOutside => (11, 2),
             BayFault::NoLeg => (14, 0),
             BayFault::TableShort => (15, 0),
             BayFault::CostsShort => (15, 1),
@@ -40,6 +45,7 @@ impl BayFault {
             BayFault::LegsFull => (24, 0),
             BayFault::NoLegs => (25, 0),
             BayFault::Loop => (26, 0),
+            BayFault::NoSplit => (27, 0),
         };
         Code {
             layer: Layer::Bay,

@@ -1,1 +1,2 @@
 mod Booking
+mod OverTable

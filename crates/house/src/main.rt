@@ -1,21 +1,32 @@
-// Routes legs over the house table, or over a customer's. Standard input has a leg a line, as `4 2`; a line `bar 0` asks for the
-// legs once more with that format out of use. A line `row` has the next numbers of a customer's table, in half lines, or `none`
-// where no card stands; a line `own` has those of the house table.
+// Routes legs and splits inputs over the house table, or over a customer's. Standard input has a leg a line, as `4 2`, or a fork, as
+// `fork 4 2 6`: an input and the two outputs that it is split over. A line `bar 0` asks for all of them once more with that format out
+// of use. A line `row` has the next numbers of a customer's table, in half lines, or `none` where no card stands; a line `own` has
+// those of the house table.
 #![tactic(auto)]
 
 use anyhow::{Context, anyhow};
-use bay::{Answer, Bay, CHAIN_BYTES, Call, Cell, MOST_LEGS, ROW};
+use bay::{Answer, Bay, CHAIN_BYTES, Call, Cell, MOST_LEGS, ROW, SPLIT_ROWS};
 use costs::Delay;
-use registers::{Bars, Code, HouseTable, Over};
+use registers::{Bars, Code, Format, HouseTable, Over};
 use tables::{
-    Gainless, LoadedTable, NO_CARD, PLACES, check_own_table, check_table, route_gainless,
+    Gainless, LoadedTable, NO_CARD, PLACES, check_own_table, check_table, fork_gainless,
+    route_gainless,
 };
 
-// What the input asks for: the formats that are barred, the legs to book, and the numbers of a customer's table.
+// An input that is to be split over two outputs.
+#[derive(Clone, Copy)]
+struct Fork {
+    input: Format,
+    first: Format,
+    second: Format,
+}
+
+// What the input asks for: the formats that are barred, the legs to book, the forks, and the numbers of a customer's table.
 #[derive(Drop)]
 struct Job {
     bars: u64,
     legs: Vec<Call<Delay>>,
+    forks: Vec<Fork>,
     numbers: Vec<i32>,
 }
 
@@ -25,6 +36,7 @@ impl Job {
         let mut job = Job {
             bars: 0,
             legs: Vec::new(rt.alloc()),
+            forks: Vec::new(rt.alloc()),
             numbers: Vec::new(rt.alloc()),
         };
         for line in rt.lines(rt.alloc()) {
@@ -50,6 +62,16 @@ impl Job {
                 }
             }
             (Some("own"), None) => self.add_own()?,
+            (Some("fork"), input) => {
+                let input = number(input)?;
+                let first = number(words.next())?;
+                let second = number(words.next())?;
+                self.forks.push(Fork {
+                    input,
+                    first,
+                    second,
+                })?;
+            }
             (from, to) => {
                 let from = number(from)?;
                 let to = number(to)?;
@@ -81,7 +103,7 @@ impl Job {
 }
 
 fn number(word: Option<&str>) -> anyhow::Result<usize> {
-    word.context("a line has two formats, or bar and a format")?
+    word.context("a line has two formats, bar and a format, or fork and three formats")?
         .parse()
         .map_err(|_| anyhow!("a format is a whole number"))
 }
@@ -100,12 +122,11 @@ fn formats(row: &[u8]) -> &[u8] {
     }
 }
 
-// Formats and the end of the line, as ` 4 3 0 2`.
+// Formats, as ` 4 3 0 2`.
 fn print_formats(rt: &HostRuntime, formats: &[u8]) -> anyhow::Result<()> {
     for format in formats {
         print!(rt; " {format}")?;
     }
-    println!(rt; "")?;
     Ok(())
 }
 
@@ -117,8 +138,20 @@ fn print_routes(rt: &HostRuntime, costs: &[Delay], chains: &[u8]) -> anyhow::Res
         } else {
             print!(rt; "leg {k}: {} half lines by", cost.half_lines)?;
             print_formats(rt, formats)?;
+            println!(rt; "")?;
         }
     }
+    Ok(())
+}
+
+// A split, what it costs, and its chains, as `split at 1, 6 half lines by 1, then 1 5 and 1 6`.
+fn print_split(rt: &HostRuntime, split: Format, total: Delay, chains: &[u8]) -> anyhow::Result<()> {
+    print!(rt; "split at {split}, {} half lines", total.half_lines)?;
+    for (word, row) in [" by", ", then", " and"].iter().zip(chains.chunks(ROW)) {
+        print!(rt; "{word}")?;
+        print_formats(rt, formats(row))?;
+    }
+    println!(rt; "")?;
     Ok(())
 }
 
@@ -129,13 +162,44 @@ fn print_refusal(rt: &HostRuntime, code: Code) -> anyhow::Result<()> {
     Ok(())
 }
 
-// Books the legs on a new bay over the register, routes them, and prints what came of it. The route finds no loop.
-fn serve<R: Gainless<Cost = Delay> + Drop>(
+// Splits the input of each fork over its outputs, and prints what came of it. A fork finds no loop.
+fn serve_forks<R: Gainless<Cost = Delay>>(
     rt: &HostRuntime,
-    register: R,
+    bay: &Bay<R>,
+    forks: &[Fork],
+) -> anyhow::Result<()> {
+    let mut table = [Cell::empty(); PLACES];
+    let mut total = [Delay { half_lines: 0 }];
+    let mut chains = [255; SPLIT_ROWS * ROW];
+    for fork in forks {
+        let Fork {
+            input,
+            first,
+            second,
+        } = *fork;
+        print!(rt; "fork {input} {first} {second}: ")?;
+        match fork_gainless(
+            bay,
+            input,
+            first,
+            second,
+            &mut table,
+            &mut total,
+            &mut chains,
+        ) {
+            Ok(split) => print_split(rt, split, total[0], &chains)?,
+            Err(fault) => print_refusal(rt, fault.code())?,
+        }
+    }
+    Ok(())
+}
+
+// Books the legs on the bay, routes them, and prints what came of it. The route finds no loop.
+fn serve_legs<R: Gainless<Cost = Delay>>(
+    rt: &HostRuntime,
+    bay: &mut Bay<R>,
     legs: &[Call<Delay>],
 ) -> anyhow::Result<()> {
-    let mut bay = Bay::new(register);
     let mut table = [Cell::empty(); PLACES];
     let mut costs = [Delay { half_lines: 0 }; MOST_LEGS];
     let mut chains = [255; CHAIN_BYTES];
@@ -147,22 +211,35 @@ fn serve<R: Gainless<Cost = Delay> + Drop>(
             print_refusal(rt, fault.code())?;
         }
     }
-    match route_gainless(&mut bay, &mut table, &mut costs, &mut chains) {
+    match route_gainless(bay, &mut table, &mut costs, &mut chains) {
         Ok(legs) => print_routes(rt, costs.get(..legs).unwrap_or(&costs), &chains),
         Err(fault) => print_refusal(rt, fault.code()),
     }
 }
 
-// The bare register, and where formats are barred the same legs once more under the bars.
+// The legs and the forks over a new bay. Where only forks are asked for, no route is made.
+fn serve<R: Gainless<Cost = Delay> + Drop>(
+    rt: &HostRuntime,
+    register: R,
+    job: &Job,
+) -> anyhow::Result<()> {
+    let mut bay = Bay::new(register);
+    if !job.legs.is_empty() || job.forks.is_empty() {
+        serve_legs(rt, &mut bay, &job.legs)?;
+    }
+    serve_forks(rt, &bay, &job.forks)
+}
+
+// The bare register, and where formats are barred all once more under the bars.
 fn serve_twice<R: Gainless<Cost = Delay> + Copy + Drop>(
     rt: &HostRuntime,
     register: R,
     job: &Job,
 ) -> anyhow::Result<()> {
-    serve(rt, register, &job.legs)?;
+    serve(rt, register, job)?;
     if job.bars != 0 {
         println!(rt; "under the bars:")?;
-        serve(rt, Over::new(register, Bars { bits: job.bars }), &job.legs)?;
+        serve(rt, Over::new(register, Bars { bits: job.bars }), job)?;
     }
     Ok(())
 }

@@ -1,5 +1,6 @@
 -- What a host in C is told, as numbers.
 use Rattle.std.specs.Prelude.{◌≡◌, ℕ, ◌+◌, ◌*◌, ◌≤◌, List, length, ℤ, Some, None, Ok, Err, Option, Result}
+use Rattle.std.specs.Result.{result_unwrap_or}
 use Rattle.costs.specs.declared.Cost.{Ghosts as Kind}
 use Rattle.costs.specs.declared.delay.Delay.{Delay}
 use Rattle.registers.specs.Fault.{after}
@@ -16,6 +17,7 @@ use Rattle.bay.specs.declared.legs.Ends.{Ends}
 use Rattle.listing.specs.Answered.{Listed}
 use Rattle.listing.specs.declared.answer.PlaceShort.{PlaceShort}
 use Rattle.direct.specs.Cards.{CardsAnswer}
+use Rattle.direct.specs.Forks.{CardsForked, TableForked}
 use Rattle.direct.specs.Loaded.{TableAnswer}
 use Rattle.tables.specs.Tables.{TableVerdict}
 
@@ -43,6 +45,17 @@ pub record RouteTold {C : Type 0} (K : Kind C) (n : ℕ) (cards : List C) (legs 
   pub right : CardsAnswer K n cards legs (buffers table costs chains) (buffers table' costs' chains') answer
   pub number : r ≡ status (refused answer)
 
+-- The fork over the cards that are handed in, in some table that is long enough for n formats, where n is one that a register can
+-- have. The split is told in a place of its own, which a refusal leaves as it was.
+pub record ForkTold {C : Type 0} (K : Kind C) (n : ℕ) (cards : List C) (input first second : ℕ) (costs costs' : List C) (chains chains' : List ℕ) (split split' r : ℕ) : Type 0 where
+  pub table : List (Cell C)
+  pub table' : List (Cell C)
+  pub room : n ≤ most_formats → n * n ≤ length table
+  pub answer : Result ℕ BayFault
+  pub right : CardsForked K n cards input first second (buffers table costs chains) (buffers table' costs' chains') answer
+  pub split_is : split' ≡ result_unwrap_or answer split
+  pub number : r ≡ status (refused answer)
+
 -- The check of a table into a place, which is written where it is granted.
 pub record TableTold (numbers before after' : List ℤ) (r : ℕ) : Type 0 where
   pub answer : Option Code
@@ -57,6 +70,16 @@ pub record TableRouteTold (place : List ℤ) (bits : ℕ) (legs : List Ends) (co
   pub room : house_places ≤ length table
   pub answer : Result ℕ BayFault
   pub right : TableAnswer place bits legs (buffers table costs chains) (buffers table' costs' chains') answer
+  pub number : r ≡ status (refused answer)
+
+-- The fork over the table in a place, in some working table that is long enough for it.
+pub record TableForkTold (place : List ℤ) (bits input first second : ℕ) (costs costs' : List Delay) (chains chains' : List ℕ) (split split' r : ℕ) : Type 0 where
+  pub table : List (Cell Delay)
+  pub table' : List (Cell Delay)
+  pub room : house_places ≤ length table
+  pub answer : Result ℕ BayFault
+  pub right : TableForked place bits input first second (buffers table costs chains) (buffers table' costs' chains') answer
+  pub split_is : split' ≡ result_unwrap_or answer split
   pub number : r ≡ status (refused answer)
 
 -- what a ticket's call answers: 0, and the length that was written; or 1, and the length that is needed

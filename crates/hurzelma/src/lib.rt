@@ -5,20 +5,21 @@
 mod both;
 
 ghost use Rattle.std.specs.Prelude.{◌≡◌, length};
+ghost use Rattle.std.specs.Result.{result_unwrap_or};
 ghost use Rattle.registers.specs.House.{house_places};
 ghost use Rattle.costs.specs.Kinds.{delays, depths};
 ghost use Rattle.bay.specs.Faults.{refused};
 ghost use Rattle.tables.specs.Faults.{table_refusal};
 ghost use Rattle.tables.specs.Tables.{own_numbers};
 ghost use Rattle.hurzelma.specs.Both.{crossing};
-ghost use Rattle.hurzelma.specs.Host.{fault_number, status, RouteTold, TableRouteTold, TableTold, TextTold};
+ghost use Rattle.hurzelma.specs.Host.{fault_number, status, ForkTold, RouteTold, TableForkTold, TableRouteTold, TableTold, TextTold};
 
 use bay::{BayFault, Cell, Ends};
 use both::Both;
 use costs::{Cost, Delay, Depth};
-use direct::{route_cards, route_table};
+use direct::{fork_cards, fork_table, route_cards, route_table};
 use listing::answer_on_stack;
-use registers::{Bars, Code, Layer, MOST_FORMATS};
+use registers::{Bars, Code, Format, Layer, MOST_FORMATS};
 use tables::{PLACES, TableFault, check_own_table, check_table};
 
 // As many cells as a route over the most formats wants.
@@ -58,15 +59,15 @@ fn status(answer: Result<usize, BayFault>) -> u32
     }
 }
 
-// A route with a table of its own on the stack. A macro: a function over every kind would owe that the kind's costs have a size.
-macro_rules! routed {
-    ($n:expr, $cards:expr, $legs:expr, $costs:expr, $chains:expr) => {
+// A call with a table of its own on the stack. A macro: a function over every kind would owe that the kind's costs have a size.
+macro_rules! with_table {
+    ($n:expr, $table:ident => $call:expr) => {
         if $n <= FEW_FORMATS {
-            let mut table = [Cell::empty(); FEW_CELLS];
-            status(route_cards($n, $cards, $legs, &mut table, $costs, $chains))
+            let mut $table = [Cell::empty(); FEW_CELLS];
+            $call
         } else {
-            let mut table = [Cell::empty(); CELLS];
-            status(route_cards($n, $cards, $legs, &mut table, $costs, $chains))
+            let mut $table = [Cell::empty(); CELLS];
+            $call
         }
     };
 }
@@ -83,7 +84,7 @@ pub extern "C" fn hurzelma_route_delay(
     ensures { RouteTold delays n cards.now legs.now costs.old costs.new
         chains.old chains.new result }
 {
-    routed!(n, cards, legs, costs, chains)
+    with_table!(n, table => status(route_cards(n, cards, legs, &mut table, costs, chains)))
 }
 
 // Routes legs over depths, row by row: 0, or the number of the fault.
@@ -98,7 +99,7 @@ pub extern "C" fn hurzelma_route_depth(
     ensures { RouteTold depths n cards.now legs.now costs.old costs.new
         chains.old chains.new result }
 {
-    routed!(n, cards, legs, costs, chains)
+    with_table!(n, table => status(route_cards(n, cards, legs, &mut table, costs, chains)))
 }
 
 // Routes legs over delays and depths, row by row: 0, or the number of the fault. Depths decide where delays are equal.
@@ -113,7 +114,82 @@ pub extern "C" fn hurzelma_route_both(
     ensures { RouteTold crossing n cards.now legs.now costs.old costs.new
         chains.old chains.new result }
 {
-    routed!(n, cards, legs, costs, chains)
+    with_table!(n, table => status(route_cards(n, cards, legs, &mut table, costs, chains)))
+}
+
+// What a host is told of a fork: 0 where it is granted, and the format where the input splits.
+fn split_status(answer: Result<Format, BayFault>, split: &mut Format) -> u32
+    ensures split { split.new ≡ result_unwrap_or answer split.old }
+    ensures number { result ≡ status (refused answer) }
+{
+    if let Ok(format) = answer {
+        *split = format;
+    }
+    status(answer)
+}
+
+// Splits an input over two outputs, over delays, row by row: 0, or the number of the fault.
+#[unsafe(no_mangle)]
+pub extern "C" fn hurzelma_fork_delay(
+    n: usize,
+    cards: &[Delay],
+    input: usize,
+    first: usize,
+    second: usize,
+    costs: &mut [Delay],
+    chains: &mut [u8],
+    split: &mut usize,
+) -> u32
+    ensures { ForkTold delays n cards.now input first second costs.old costs.new
+        chains.old chains.new split.old split.new result }
+{
+    with_table!(n, table => {
+        let answer = fork_cards(n, cards, input, first, second, &mut table, costs, chains);
+        split_status(answer, split)
+    })
+}
+
+// Splits an input over two outputs, over depths, row by row: 0, or the number of the fault.
+#[unsafe(no_mangle)]
+pub extern "C" fn hurzelma_fork_depth(
+    n: usize,
+    cards: &[Depth],
+    input: usize,
+    first: usize,
+    second: usize,
+    costs: &mut [Depth],
+    chains: &mut [u8],
+    split: &mut usize,
+) -> u32
+    ensures { ForkTold depths n cards.now input first second costs.old costs.new
+        chains.old chains.new split.old split.new result }
+{
+    with_table!(n, table => {
+        let answer = fork_cards(n, cards, input, first, second, &mut table, costs, chains);
+        split_status(answer, split)
+    })
+}
+
+// Splits an input over two outputs, over delays and depths, row by row: 0, or the number of the fault. Depths decide where delays
+// are equal.
+#[unsafe(no_mangle)]
+pub extern "C" fn hurzelma_fork_both(
+    n: usize,
+    cards: &[Both],
+    input: usize,
+    first: usize,
+    second: usize,
+    costs: &mut [Both],
+    chains: &mut [u8],
+    split: &mut usize,
+) -> u32
+    ensures { ForkTold crossing n cards.now input first second costs.old costs.new
+        chains.old chains.new split.old split.new result }
+{
+    with_table!(n, table => {
+        let answer = fork_cards(n, cards, input, first, second, &mut table, costs, chains);
+        split_status(answer, split)
+    })
 }
 
 // What a host is told of a table: 0 where it passes.
@@ -158,6 +234,30 @@ pub extern "C" fn hurzelma_route_table(
     let mut table = [Cell::empty(); PLACES];
     let bars = Bars { bits: bars };
     status(route_table(place, bars, legs, &mut table, costs, chains))
+}
+
+// Splits an input over two outputs, over the table in a place, under bars: 0, or the number of the fault, which is never that of a
+// loop.
+#[unsafe(no_mangle)]
+pub extern "C" fn hurzelma_fork_table(
+    place: &[i32],
+    bars: u64,
+    input: usize,
+    first: usize,
+    second: usize,
+    costs: &mut [Delay],
+    chains: &mut [u8],
+    split: &mut usize,
+) -> u32
+    ensures { TableForkTold place.now bars input first second costs.old costs.new
+        chains.old chains.new split.old split.new result }
+{
+    let mut table = [Cell::empty(); PLACES];
+    let bars = Bars { bits: bars };
+    split_status(
+        fork_table(place, bars, input, first, second, &mut table, costs, chains),
+        split,
+    )
 }
 
 // Routes a ticket and writes the text of its answer. The length is that of the text, or what a place too short would need.

@@ -1,4 +1,4 @@
-// Registers whose cards never make a loop that undercuts the unit, and routes over them.
+// Registers whose cards never make a loop that undercuts the unit, and routes and forks over them.
 ghost use Rattle.std.specs.Prelude.{◌≡◌, ◌≢◌, Err};
 ghost use Rattle.registers.specs.Meaning.{stands};
 ghost use Rattle.walks.specs.Walk.{Gains};
@@ -7,11 +7,12 @@ ghost use Rattle.tables.specs.ViewLaws.{viewed_calm};
 ghost use Rattle.bay.specs.Bays.{legs, plain};
 ghost use Rattle.bay.specs.Buffers.{buffers};
 ghost use Rattle.bay.specs.Routing.{RouteAnswer};
+ghost use Rattle.bay.specs.Splits.{ForkAnswer};
 ghost use Rattle.bay.specs.declared.fault.BayFault.TheVariants.{Loop};
 
 use crate::loaded::LoadedTable;
 use bay::{Bay, BayFault, Cell};
-use registers::{HouseTable, Over, Register, View};
+use registers::{Format, HouseTable, Over, Register, View};
 
 // A register over whose standing cards no closed walk undercuts the unit, whatever state it can come to.
 pub trait Gainless: Register {
@@ -49,4 +50,23 @@ pub fn route_gainless<R: Gainless>(
     ensures register { bay.new.register ≡ bay.old.register }
 {
     bay.route(table, costs, chains)
+}
+
+// A fork on a bay over such a register, under any pile of views. It is as every fork, and never refused for a loop.
+pub fn fork_gainless<R: Gainless>(
+    bay: &Bay<R>,
+    input: Format,
+    first: Format,
+    second: Format,
+    table: &mut [Cell<R::Cost>],
+    costs: &mut [R::Cost],
+    chains: &mut [u8],
+) -> Result<Format, BayFault>
+    ensures never { result ≢ Err Loop }
+    ensures answer { let before = buffers table.old costs.old chains.old in
+        let after = buffers table.new costs.new chains.new in
+        let cards = (plain bay.now).register in
+        ForkAnswer R.Cost.Cost cards input first second before after result }
+{
+    bay.fork(input, first, second, table, costs, chains)
 }

@@ -9,7 +9,7 @@ mod numbers;
 mod own;
 
 pub use fault::TableFault;
-pub use gainless::{Gainless, route_gainless};
+pub use gainless::{Gainless, fork_gainless, route_gainless};
 pub use judge::check_table;
 pub use loaded::LoadedTable;
 pub use numbers::{NO_CARD, PLACES};

@@ -301,6 +301,51 @@ fn notes(rt: &HostRuntime) -> anyhow::Result<()> {
     print_leg(rt, &bay, 1)
 }
 
+// A fork in so many cells, entries and bytes.
+fn fork_in<R: Register<Cost = Delay>>(
+    rt: &HostRuntime,
+    what: &str,
+    bay: &Bay<R>,
+    formats: [usize; 3],
+    room: [usize; 3],
+) -> anyhow::Result<()> {
+    let heap = rt.alloc();
+    let [input, first, second] = formats;
+    let [cells, entries, bytes] = room;
+    let mut table = vec![in heap; Cell::empty(); cells]?;
+    let mut costs = vec![in heap; Delay { half_lines: 0 }; entries]?;
+    let mut chains = vec![in heap; 0; bytes]?;
+    match bay.fork(input, first, second, &mut table, &mut costs, &mut chains) {
+        Ok(split) => {
+            let total = costs.first().map_or(0, |cost| cost.half_lines);
+            println!(rt; "{what}: {split} at {total}")?;
+        }
+        Err(fault) => print_fault(rt, what, fault)?,
+    }
+    Ok(())
+}
+
+// Forks that are refused, in the order of their causes, and two that are not.
+fn forks(rt: &HostRuntime) -> anyhow::Result<()> {
+    let enough = [9, 1, 198];
+    let mut places = [None; 9];
+    let mut bay = Bay::new(Matrix::new(3, &mut places));
+    fork_in(rt, "fork 3 3 3", &bay, [3, 3, 3], [0, 0, 0])?;
+    fork_in(rt, "fork 0 3 3", &bay, [0, 3, 3], [0, 0, 0])?;
+    fork_in(rt, "fork 0 0 3", &bay, [0, 0, 3], [0, 0, 0])?;
+    fork_in(rt, "fork in a short table", &bay, [0, 1, 2], [8, 0, 197])?;
+    fork_in(rt, "fork with no cost", &bay, [0, 1, 2], [9, 0, 197])?;
+    fork_in(rt, "fork with short chains", &bay, [0, 1, 2], [9, 1, 197])?;
+    let _ = bay.enter(0, 1, Delay { half_lines: 5 });
+    fork_in(rt, "fork 0 1 2", &bay, [0, 1, 2], enough)?;
+    fork_in(rt, "fork 0 2 1", &bay, [0, 2, 1], enough)?;
+    let _ = bay.enter(0, 2, Delay { half_lines: 7 });
+    fork_in(rt, "fork 0 1 2", &bay, [0, 1, 2], enough)?;
+    fork_in(rt, "fork 2 2 2", &bay, [2, 2, 2], enough)?;
+    let _ = bay.enter(1, 0, Delay { half_lines: -6 });
+    fork_in(rt, "fork 0 1 2", &bay, [0, 1, 2], enough)
+}
+
 pub fn fixed_cases(rt: &HostRuntime) -> anyhow::Result<()> {
     ties(rt)?;
     loops(rt)?;
@@ -308,5 +353,6 @@ pub fn fixed_cases(rt: &HostRuntime) -> anyhow::Result<()> {
     large(rt)?;
     refusals(rt)?;
     legs(rt)?;
-    notes(rt)
+    notes(rt)?;
+    forks(rt)
 }

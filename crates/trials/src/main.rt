@@ -3,6 +3,7 @@
 
 mod dice;
 mod fixed;
+mod forks;
 mod kind;
 mod loaded;
 mod play;
@@ -13,6 +14,7 @@ mod short;
 
 use crate::dice::Dice;
 use crate::fixed::fixed_cases;
+use crate::forks::fork_trials;
 use crate::loaded::customer_tables;
 use crate::play::{Change, play, play_all};
 use crate::random::random_trials;
@@ -69,7 +71,8 @@ fn run(rt: &HostRuntime) -> anyhow::Result<()> {
     fixed_cases(rt)?;
     house_rows(rt)?;
     short_memory(rt)?;
-    customer_tables(rt)
+    customer_tables(rt)?;
+    fork_trials(rt)
 }
 
 fn main(rt: HostRuntime) -> anyhow::Result<()> {

@@ -49,7 +49,7 @@ fn half_lines(dice: &mut Dice) -> i32 {
 }
 
 // A format below n, and at times n or n + 1.
-fn end(dice: &mut Dice, n: usize) -> usize {
+pub fn end(dice: &mut Dice, n: usize) -> usize {
     if dice.below(8) == 0 {
         dice.below(n.saturating_add(2))
     } else {

@@ -7,7 +7,11 @@ use costs::{Delay, Depth};
 use std::alloc::{AllocError, Global};
 
 // Cards for some pairs, from one in six to all.
-fn draw_cards<C: Kind>(heap: Global, dice: &mut Dice, n: usize) -> Result<Vec<Card>, AllocError> {
+pub fn draw_cards<C: Kind>(
+    heap: Global,
+    dice: &mut Dice,
+    n: usize,
+) -> Result<Vec<Card>, AllocError> {
     let density = dice.below(6).saturating_add(1);
     let spread = dice.below(4);
     let mut cards = Vec::new(heap);

@@ -36,29 +36,29 @@ pub struct Job<'a> {
 // What the bytes of the chain sheet are before a route.
 const JUNK: u8 = 9;
 
-// The table and the sheets of a route, with something in them, and longer than need be.
+// A table and sheets with something in them.
 #[derive(Drop)]
-struct Sheets<C> {
-    table: Vec<Cell<C>>,
-    costs: Vec<C>,
-    chains: Vec<u8>,
+pub struct Sheets<C> {
+    pub table: Vec<Cell<C>>,
+    pub costs: Vec<C>,
+    pub chains: Vec<u8>,
 }
 
 impl<C: Kind> Sheets<C> {
-    fn new(heap: Global, job: &Job) -> Result<Sheets<C>, AllocError> {
+    // For n formats, two cells more than need be, and so many entries and rows.
+    pub fn new(heap: Global, n: usize, rows: usize) -> Result<Sheets<C>, AllocError> {
         let junk = Cell {
             cost: C::of_number(3),
         };
-        let rows = job.legs.len().saturating_add(1);
         Ok(Sheets {
-            table: vec![in heap; junk; job.n.saturating_mul(job.n).saturating_add(2)]?,
+            table: vec![in heap; junk; n.saturating_mul(n).saturating_add(2)]?,
             costs: vec![in heap; C::of_number(11); rows]?,
             chains: vec![in heap; JUNK; rows.saturating_mul(ROW)]?,
         })
     }
 
     // Whether the sheets are as they were, from these rows and entries on.
-    fn is_as_found(&self, rows: usize, entries: usize) -> bool {
+    pub fn is_as_found(&self, rows: usize, entries: usize) -> bool {
         self.chains
             .chunks(ROW)
             .skip(rows)
@@ -73,18 +73,18 @@ impl<C: Kind> Sheets<C> {
 
 // The formats of a row, and what is behind them; none where the row is too short for its count. Cut here and not by the listing,
 // since the trials judge what was written.
-fn split_row(row: &[u8]) -> Option<(&[u8], &[u8])> {
+pub fn split_row(row: &[u8]) -> Option<(&[u8], &[u8])> {
     let (count, bytes) = row.split_first()?;
     bytes.split_at_checked(usize::from(*count))
 }
 
 // The formats of a row.
-fn formats(row: &[u8]) -> &[u8] {
+pub fn formats(row: &[u8]) -> &[u8] {
     split_row(row).map_or(&[], |(formats, _)| formats)
 }
 
 // Whether all that is behind the formats of a row is 255.
-fn is_filled(behind: &[u8]) -> bool {
+pub fn is_filled(behind: &[u8]) -> bool {
     behind.iter().all(|byte| *byte == 255)
 }
 
@@ -96,7 +96,7 @@ fn is_without_repeats(formats: &[u8]) -> bool {
 }
 
 // What the cards along a walk come to; none where one does not stand.
-fn walk_number<C: Kind, R: Register<Cost = C>>(register: &R, formats: &[u8]) -> Option<i32> {
+pub fn walk_number<C: Kind, R: Register<Cost = C>>(register: &R, formats: &[u8]) -> Option<i32> {
     formats
         .iter()
         .zip(formats.iter().skip(1))
@@ -107,7 +107,7 @@ fn walk_number<C: Kind, R: Register<Cost = C>>(register: &R, formats: &[u8]) -> 
 }
 
 // Whether the formats are a chain for the leg at this number, or there are none and the number says so.
-fn is_right<C: Kind, R: Register<Cost = C>>(
+pub fn is_right<C: Kind, R: Register<Cost = C>>(
     register: &R,
     leg: Ends,
     formats: &[u8],
@@ -141,7 +141,7 @@ fn is_agreed<C: Kind>(legs: &[Ends], sheets: &Sheets<C>) -> bool {
 }
 
 // Whether every leg has what it must.
-fn is_granted<C: Kind, R: Register<Cost = C>>(
+pub fn is_granted<C: Kind, R: Register<Cost = C>>(
     register: &R,
     legs: &[Ends],
     sheets: &Sheets<C>,
@@ -159,7 +159,7 @@ fn is_granted<C: Kind, R: Register<Cost = C>>(
 }
 
 // Whether row 0 is a loop that gains.
-fn is_loop<C: Kind, R: Register<Cost = C>>(register: &R, sheets: &Sheets<C>) -> bool {
+pub fn is_loop<C: Kind, R: Register<Cost = C>>(register: &R, sheets: &Sheets<C>) -> bool {
     let Some((formats, behind)) = sheets.chains.chunks(ROW).next().and_then(split_row) else {
         return false;
     };
@@ -266,7 +266,7 @@ fn settle<C: Kind, R: Register<Cost = C> + Drop>(
     job: &Job,
 ) -> anyhow::Result<()> {
     let mut bay = Bay::new(register);
-    let mut sheets = Sheets::<C>::new(rt.alloc(), job)?;
+    let mut sheets = Sheets::<C>::new(rt.alloc(), job.n, job.legs.len().saturating_add(1))?;
     let ready = set_up(&mut bay, job, &mut sheets);
     let answer = bay.call(
         Call::Route,

@@ -187,7 +187,7 @@ module _ {C : Type 0} {K : Kind C} (t : Tested K) (s : CardSet K.algebra) where
 
 -- a route over the cards
 module _ {C : Type 0} (K : Kind C) (s : CardSet K.algebra) where
-  some_register : (m : Meaning K.algebra.Value) × IsSize m.size × Stand K s.card m
+  pub some_register : (m : Meaning K.algebra.Value) × IsSize m.size × Stand K s.card m
   some_register = (record { size = s.size; cards = s.card; sealed = λ a b. false; free = 0 }, s.is_size, λ a b. by (possible s.size a b) (s.card a b) (s.inside a b))
     where
       by : (k : Bool) (o : Option K.algebra.Value) → passes (λ x. k) o ≡ true → cond k o None ≡ o
@@ -195,7 +195,7 @@ module _ {C : Type 0} (K : Kind C) (s : CardSet K.algebra) where
       by false None h = refl
       by false (Some x) h = absurd (false≢true h)
 
-  same_cards : (p : Plain K) → Stand K s.card p.register → standing p.register ≡ s.card
+  pub same_cards : (p : Plain K) → Stand K s.card p.register → standing p.register ≡ s.card
   same_cards p stand i a b = stand a b i
 
   pub always_refused : Gains K.algebra s.card → (legs : List Ends) → AlwaysRefused K s.card legs

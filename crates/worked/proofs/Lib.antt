@@ -2,6 +2,7 @@ pub mod CaseProofs
 pub mod Chains
 pub mod LegProofs
 pub mod RouteProofs
+pub mod ForkProofs
 pub mod SampleLines
 pub mod SampleRoute
 pub mod SampleAnswer

@@ -21,19 +21,19 @@ gaining_set = listed 3 (omega arith, omega arith) gaining_ring refl
 abbrev even_set : CardSet delay
 even_set = listed 3 (omega arith, omega arith) even_ring refl
 
-abbrev pair_set : CardSet delay
+abbrev pub pair_set : CardSet delay
 pair_set = listed 3 (omega arith, omega arith) free_pair refl
 
-abbrev elsewhere_set : CardSet delay
+abbrev pub elsewhere_set : CardSet delay
 elsewhere_set = listed 4 (omega arith, omega arith) gain_elsewhere refl
 
-abbrev deeper_set : CardSet depth
+abbrev pub deeper_set : CardSet depth
 deeper_set = listed 3 (omega arith, omega arith) deeper_way refl
 
-abbrev open_set : CardSet delay
+abbrev pub open_set : CardSet delay
 open_set = held (meant delays house) (omega arith, omega arith)
 
-abbrev barred_set : CardSet delay
+abbrev pub barred_set : CardSet delay
 barred_set = held (meant delays (barred 1 house)) (omega arith, omega arith)
 
 abbrev reversed_set : CardSet delay

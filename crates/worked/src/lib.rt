@@ -1,5 +1,5 @@
-// Worked cases, as one statement about the definitions: walks, least costs and what routes are answered over a few small sets of
-// cards and over the house table, and the sample ticket.
+// Worked cases, as one statement about the definitions: walks, least costs and what routes and forks are answered over a few small sets
+// of cards and over the house table, and the sample ticket.
 #![tactic(auto)]
 
 ghost use Rattle.worked.specs.Cases.{AllCases};

@@ -1,12 +1,7 @@
 -- The bay is one over the table under the bar, and its legs are booked as those of every route without a ticket.
-use Rattle.std.proofs.Common.{◌≡◌, sym, ap, refl, subst, inl, inr, ◌∙◌}
+use Rattle.std.proofs.Common.{sym, ap, refl, subst, inl, inr, ◌∙◌}
 use Rattle.std.proofs.lemmas.Result.{err_from_is_err_and}
 use Rattle.registers.specs.Bar.{barred}
-use Rattle.registers.specs.Meaning.{Meaning}
-use Rattle.registers.specs.declared.bar.Bars.{Bars}
-use Rattle.registers.specs.declared.over.Over.{Over}
-use Rattle.costs.specs.declared.delay.Delay.{Delay}
-use Rattle.tables.specs.declared.loaded.LoadedTable.{LoadedTable}
 use Rattle.tables.specs.Tables.{table_of}
 use Rattle.bay.specs.Bays.{legs}
 use Rattle.bay.specs.Buffers.{buffers}
@@ -15,14 +10,8 @@ use Rattle.bay.specs.Routing.{RouteAnswer}
 use Rattle.direct.specs.Cards.{booking_cause, with_more}
 use Rattle.direct.specs.Loaded.{bay_barred}
 use Rattle.direct.proofs.Booking.{booked_no_loop, new_bay}
+use Rattle.direct.proofs.OverTable.{held_by, over_held}
 use Rattle.direct.proofs.loaded.route_table.Goals as goal
-
--- what the register of the new bay holds
-abbrev held_by : Over LoadedTable Bars → Meaning Delay
-held_by o = barred o.view.bits (table_of o.below.table.numbers.now)
-
-over_held : (o : Over LoadedTable Bars) (t : LoadedTable) (bars : Bars) → o.below ≡ t → o.view ≡ bars → held_by o ≡ barred bars.bits (table_of t.table.numbers.now)
-over_held o t bars below view = λ i. barred (view i).bits (table_of (below i).table.numbers.now)
 
 pub returns-in_err-book_all : goal.returns-in_err-book_all
 returns-in_err-book_all c =

@@ -1,5 +1,5 @@
 -- A route works in its part of the sheets, and any other call in none of them.
-use Rattle.std.proofs.Common.{◌≡◌, ◌+◌, ◌-◌, ◌*◌, ◌≤◌, Bool, true, false, length, take, drop, sym, refl, ap, ◌∙◌, arith}
+use Rattle.std.proofs.Common.{◌≡◌, ◌+◌, ◌-◌, ◌*◌, true, false, take, drop, sym, refl, ap, ◌∙◌, arith}
 use Rattle.bay.specs.Limits.{most_legs}
 use Rattle.bay.specs.Runs.{own, part_bytes, takes_part}
 use Rattle.bay.proofs.RunSteps.{none_put, own_long, own_none, part_put}
