@@ -82,6 +82,10 @@ static uint32_t fault(uint32_t layer, uint32_t number, uint32_t part) {
     return layer << 16 | number << 8 | part;
 }
 
+static uint32_t of_leg(size_t leg, uint32_t cause) {
+    return (uint32_t)leg << 24 | cause;
+}
+
 /* What is refused for the number of formats and of cards. */
 static uint32_t unfit(const struct job *job) {
     size_t n = job->n;
@@ -96,9 +100,9 @@ static uint32_t early(const struct job *job) {
     if (unfit(job) != 0) return unfit(job);
     for (size_t k = 0; k < job->legs_length; k++) {
         struct hurzelma_leg leg = job->legs[k];
-        if (leg.from >= n) return fault(2, 11, 0);
-        if (leg.to >= n) return fault(2, 11, 1);
-        if (k >= 32) return fault(2, 24, 0);
+        if (leg.from >= n) return of_leg(k, fault(2, 11, 0));
+        if (leg.to >= n) return of_leg(k, fault(2, 11, 1));
+        if (k >= 32) return of_leg(k, fault(2, 24, 0));
     }
     if (job->legs_length == 0) return fault(2, 25, 0);
     if (job->costs_length < job->legs_length) return fault(2, 15, 1);
@@ -379,23 +383,103 @@ static uint32_t call(const struct job *job, const struct fork *fork, struct left
     return job->kind == DELAY ? call_delay(job, fork, left) : job->kind == DEPTH ? call_depth(job, fork, left) : call_both(job, fork, left);
 }
 
-static const char ticket[] =
-    "(bay delay 2)\n(format 0 UYVY)\n(format 1 v210)\n(card (0 1) -4.5)\n(leg (0 1))\n(leg (1 0))\n(leg (1 1))\n(end)\n";
-static const char answer[] = "(leg 0 (0 1) -4.5 (UYVY v210))\n(leg 1 (1 0) none)\n(leg 2 (1 1) 0 (v210))\n(end)\n";
+/* A ticket, its answer, and what it is told. */
+struct answered {
+    const char *ticket, *answer;
+    struct hurzelma_verdict verdict;
+};
 
-enum { WANTED = sizeof answer - 1 };
+enum { TICKET_MOST = 200, ANSWER_MOST = 120 };
 
-/* Whether the ticket is answered rightly in a place of so many bytes, at most one more than are wanted, and nothing else is written. */
-static bool is_answered(size_t room) {
-    uint8_t text[sizeof ticket], place[WANTED + 2], right[WANTED + 2];
-    size_t length = SIZE_MAX;
-    memcpy(text, ticket, sizeof text);
+static const struct answered tickets[] = {
+    {"(bay delay 2)\n(format 0 UYVY)\n(format 1 v210)\n(card (0 1) -4.5)\n(leg (0 1))\n(leg (1 0))\n(leg (1 1))\n(end)\n",
+     "(leg 0 (0 1) -4.5 (UYVY v210))\n(leg 1 (1 0) none)\n(leg 2 (1 1) 0 (v210))\n(end)\n", {0, 0, 0, 0}},
+    {"(bay depth 2)\n(format 0 UYVY)\n(format 1 v210)\n(card (0 1) 10)\n(leg (0 1))\n(end)\n", "(leg 0 (0 1) 10 (UYVY v210))\n(end)\n", {0, 0, 0, 0}},
+    {"(bay both 2)\n(format 0 UYVY)\n(format 1 v210)\n(card (0 1) (-0.5 10))\n(leg (0 1))\n(end)\n",
+     "(leg 0 (0 1) (-0.5 10) (UYVY v210))\n(end)\n", {0, 0, 0, 0}},
+    {"", "(refused ticket 2 0 0)\n", {1, 2, 0, 0}},
+    {"(bay delay 1)\n", "(refused ticket 3 0 11)\n", {1, 3, 0, 11}},
+    {"(bay delay 2)\n(format 0 UYVY)\n(format 1 v210)\n(card (0 1) 1)\n(card (1 2) 1)\n", "(refused register 11 1 61)\n", {3, 11, 1, 61}},
+    {"(bay delay 2)\n(format 0 UYVY)\n(format 1 v210)\n(card (0 1) -2)\n(card (1 0) 1.5)\n(leg (0 0))\n(end)\n",
+     "(refused bay 26 0 91)\n(loop (v210 UYVY v210))\n", {2, 26, 0, 91}},
+};
+
+/* Whether a ticket is answered rightly in a place of so many bytes, and nothing else is written. */
+static bool is_answered(const struct answered *as, size_t room) {
+    uint8_t text[TICKET_MOST], place[ANSWER_MOST], right[ANSWER_MOST];
+    struct hurzelma_verdict verdict = {77, 77, 77, 77};
+    size_t length = SIZE_MAX, ticket = strlen(as->ticket), wanted = strlen(as->answer);
+    memset(text, 8, sizeof text);
+    memcpy(text, as->ticket, ticket);
     memset(place, 9, sizeof place);
     memset(right, 9, sizeof right);
-    if (WANTED <= room) memcpy(right, answer, WANTED);
-    uint32_t told = hurzelma_answer(text, sizeof ticket - 1, place, room, &length);
-    return told == (WANTED <= room ? HURZELMA_WRITTEN : HURZELMA_PLACE_SHORT) && length == WANTED &&
-           memcmp(text, ticket, sizeof text) == 0 && memcmp(place, right, sizeof place) == 0;
+    if (wanted <= room) memcpy(right, as->answer, wanted);
+    uint32_t told = hurzelma_answer(text, ticket, place, room, &length, &verdict);
+    return told == (wanted <= room ? HURZELMA_WRITTEN : HURZELMA_PLACE_SHORT) && length == wanted &&
+           memcmp(text, as->ticket, ticket) == 0 && text[ticket] == 8 && memcmp(place, right, sizeof place) == 0 &&
+           verdict.layer == as->verdict.layer && verdict.number == as->verdict.number && verdict.part == as->verdict.part &&
+           verdict.byte == as->verdict.byte;
+}
+
+/* Each ticket in places that are too short and long enough. */
+static bool tickets_are_answered(void) {
+    for (size_t i = 0; i < sizeof tickets / sizeof *tickets; i++) {
+        for (size_t room = 0; room < ANSWER_MOST; room++) {
+            if (!is_answered(&tickets[i], room)) return false;
+        }
+    }
+    return true;
+}
+
+/* The most that a ticket can be answered: 32 legs, each over all 64 formats, with a cost of two parts. */
+static bool longest_is_answered(void) {
+    static char text[HURZELMA_TICKET];
+    static uint8_t place[HURZELMA_ANSWER];
+    struct hurzelma_verdict verdict;
+    size_t length, end = 0;
+    end += (size_t)sprintf(text + end, "(bay both 64)\n");
+    for (int f = 0; f < 64; f++) end += (size_t)sprintf(text + end, "(format %d F%03d)\n", f, f);
+    for (int f = 0; f < 63; f++) end += (size_t)sprintf(text + end, "(card (%d %d) (-999999.5 16))\n", f, f + 1);
+    for (int k = 0; k < 32; k++) end += (size_t)sprintf(text + end, "(leg (0 63))\n");
+    end += (size_t)sprintf(text + end, "(end)\n");
+    if (hurzelma_answer((const uint8_t *)text, end, place, sizeof place, &length, &verdict) != HURZELMA_WRITTEN) return false;
+    return verdict.layer == 0 && length > 11000 && memcmp(place + length - 6, "(end)\n", 6) == 0;
+}
+
+/* Every fault that there is, as its layer, number and parts from 0 on. */
+static const struct {
+    uint32_t layer, number, parts;
+} faults[] = {
+    {1, 1, 1}, {1, 2, 1}, {1, 3, 1}, {1, 4, 1}, {2, 11, 3}, {2, 14, 1}, {2, 15, 4}, {2, 24, 1}, {2, 25, 1}, {2, 26, 1},
+    {2, 27, 1}, {3, 11, 2}, {3, 16, 2}, {3, 21, 1}, {3, 22, 1}, {3, 23, 1}, {3, 28, 65}, {3, 29, 1},
+};
+
+/* Two faults of a register name one part alone, which is not 0. */
+static bool is_fault(uint32_t layer, uint32_t number, uint32_t part) {
+    if (layer == 3 && number == 12) return part == 1;
+    if (layer == 3 && number == 13) return part == 2;
+    for (size_t i = 0; i < sizeof faults / sizeof *faults; i++) {
+        if (faults[i].layer == layer && faults[i].number == number) return part < faults[i].parts;
+    }
+    return false;
+}
+
+/* Whether each fault has words, of any leg, and nothing else has; and what a place of words then holds. */
+static bool faults_have_words(void) {
+    for (uint32_t told = 0; told < 1u << 19; told++) {
+        uint8_t place[HURZELMA_WORDS + 1], again[HURZELMA_WORDS + 1];
+        size_t length = SIZE_MAX, wanted = SIZE_MAX;
+        memset(place, 9, sizeof place);
+        if (hurzelma_fault_text(told, place, HURZELMA_WORDS, &length) != HURZELMA_WRITTEN) return false;
+        bool there = is_fault(HURZELMA_LAYER(told), HURZELMA_NUMBER(told), HURZELMA_PART(told));
+        if (length > HURZELMA_WORDS || (length > 0) != there || place[length] != 9) return false;
+        if (!there) continue;
+        memset(again, 9, sizeof again);
+        if (hurzelma_fault_text(told, again, length - 1, &wanted) != HURZELMA_PLACE_SHORT || wanted != length || again[0] != 9) return false;
+        if (hurzelma_fault_text(told | 31u << 24, again, length, &wanted) != HURZELMA_WRITTEN) return false;
+        if (wanted != length || memcmp(place, again, sizeof place) != 0) return false;
+    }
+    return true;
 }
 
 /* House tables of a customer's. */
@@ -561,11 +645,13 @@ int main(void) {
         printf("a table with one number changed is told wrongly\n");
         return 1;
     }
-    for (size_t room = WANTED - 1; room <= WANTED + 1; room++) {
-        if (!is_answered(room)) {
-            printf("a ticket is answered wrongly in a place of %zu bytes\n", room);
-            return 1;
-        }
+    if (!tickets_are_answered() || !longest_is_answered()) {
+        printf("a ticket is answered wrongly\n");
+        return 1;
+    }
+    if (!faults_have_words() || hurzelma_version() != HURZELMA_VERSION_NUMBER) {
+        printf("the words of a fault, or the version, are wrong\n");
+        return 1;
     }
     if (!all_told(&job, false, CALLS) || !all_told(&job, true, FORKS)) return 1;
     int passed = tables_told(&job);

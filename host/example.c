@@ -1,4 +1,4 @@
-/* A host in C: it asks for four routes and two forks by numbers, for two routes and a fork over a table of its own, and for the answers
+/* A host in C: it asks for five routes and three forks by numbers, for two routes and a fork over a table of its own, and for the answers
  * to three tickets, and prints what it is told. */
 #include "hurzelma.h"
 
@@ -10,6 +10,15 @@
 
 static void print_told(uint32_t told) {
     printf("refused: layer %u, number %u, part %u\n", HURZELMA_LAYER(told), HURZELMA_NUMBER(told), HURZELMA_PART(told));
+}
+
+/* The words of a fault. */
+static void print_words(uint32_t told) {
+    uint8_t words[HURZELMA_WORDS];
+    size_t length = 0;
+    hurzelma_fault_text(told, words, sizeof words, &length);
+    fwrite(words, 1, length, stdout);
+    printf("\n");
 }
 
 static void print_row(const uint8_t *row) {
@@ -39,7 +48,7 @@ static void route(const hurzelma_half_lines cards[FORMATS * FORMATS], const stru
     uint32_t told = hurzelma_route_delay(FORMATS, cards, FORMATS * FORMATS, legs, LEGS, costs, LEGS, chains, sizeof chains);
     if (told != HURZELMA_GRANTED) {
         print_told(told);
-        if (HURZELMA_NUMBER(told) == 26) {
+        if (HURZELMA_NUMBER(told) == HURZELMA_CAUSE_LOOP) {
             printf("loop:");
             print_row(chains);
         }
@@ -58,7 +67,7 @@ static void print_split(size_t split, hurzelma_half_lines total, const uint8_t *
 }
 
 /* Splits format 0 over formats 2 and 3. The least chains of legs to each would have no card in common: 0 2, and 0 3. Then without
- * the cards to format 3. */
+ * the cards to format 3, and with an output that does not exist. */
 static void fork_once(void) {
     enum { NO = HURZELMA_NO_DELAY, COUNT = 4 };
     hurzelma_half_lines total = 0;
@@ -73,7 +82,8 @@ static void fork_once(void) {
     hurzelma_fork_delay(COUNT, cards, COUNT * COUNT, 0, 2, 3, &total, 1, chains, sizeof chains, &split);
     print_split(split, total, chains);
     cards[0 * COUNT + 3] = cards[1 * COUNT + 3] = NO;
-    print_told(hurzelma_fork_delay(COUNT, cards, COUNT * COUNT, 0, 2, 3, &total, 1, chains, sizeof chains, &split));
+    print_words(hurzelma_fork_delay(COUNT, cards, COUNT * COUNT, 0, 2, 3, &total, 1, chains, sizeof chains, &split));
+    print_words(hurzelma_fork_delay(COUNT, cards, COUNT * COUNT, 0, 2, COUNT, &total, 1, chains, sizeof chains, &split));
 }
 
 /* Our own table with one more card, half a line from format 6 to format 4: checked, and a leg routed over it, bare and with format 3
@@ -128,12 +138,27 @@ static void route_both(void) {
 static void answer(const char *ticket, size_t room) {
     uint8_t place[HURZELMA_ANSWER];
     size_t length = 0;
+    struct hurzelma_verdict verdict;
     const uint8_t *text = (const uint8_t *)ticket;
-    if (hurzelma_answer(text, strlen(ticket), place, room, &length) == HURZELMA_PLACE_SHORT) {
+    if (hurzelma_answer(text, strlen(ticket), place, room, &length, &verdict) == HURZELMA_PLACE_SHORT) {
         printf("a place of %zu bytes is too short: %zu are wanted\n", room, length);
-        hurzelma_answer(text, strlen(ticket), place, length, &length);
+        hurzelma_answer(text, strlen(ticket), place, length, &length, &verdict);
     }
     fwrite(place, 1, length, stdout);
+    if (verdict.layer != 0) {
+        printf("byte %zu: ", verdict.byte);
+        print_words(HURZELMA_FAULT(verdict.layer, verdict.number, verdict.part));
+    }
+}
+
+/* Routes legs of which one cannot be booked, and prints which, and why. */
+static void refuse(const struct hurzelma_leg legs[LEGS]) {
+    const hurzelma_half_lines cards[FORMATS * FORMATS] = {0};
+    hurzelma_half_lines costs[LEGS];
+    uint8_t chains[LEGS * HURZELMA_ROW];
+    uint32_t told = hurzelma_route_delay(FORMATS, cards, FORMATS * FORMATS, legs, LEGS, costs, LEGS, chains, sizeof chains);
+    printf("leg %u: ", HURZELMA_LEG(told));
+    print_words(told);
 }
 
 int main(void) {
@@ -154,6 +179,7 @@ int main(void) {
     route(cards, legs);
     route(gaining, legs);
     route(cards, wrong);
+    refuse(wrong);
     fork_once();
     route_both();
     table();

@@ -12,12 +12,16 @@
 #include <stddef.h>
 #include <stdint.h>
 
-/* The first of the three numbers goes up with each change that a host has to follow. */
+/* The first of the three numbers goes up with each change that a host has to follow. hurzelma_version answers the version that the
+ * library has, as one number: the first times 65536, the second times 256, the third. */
 #define HURZELMA_VERSION "1.0.0"
+#define HURZELMA_VERSION_NUMBER 0x010000u
 
 #ifdef __cplusplus
 extern "C" {
 #endif
+
+uint32_t hurzelma_version(void);
 
 /* There are 2 to 64 formats, numbered from 0, and up to 32 legs. */
 #define HURZELMA_MOST_FORMATS 64
@@ -44,7 +48,11 @@ struct hurzelma_both {
 #define HURZELMA_NO_DEPTH 0
 #define HURZELMA_NO_BOTH {HURZELMA_NO_DELAY, HURZELMA_NO_DEPTH}
 
-#define HURZELMA_STACK (256 * 1024)
+/* So many bytes of the stack are enough for every call; so many for each call but tickets, and routes and forks over more than so few
+ * formats. */
+#define HURZELMA_STACK (58 * 1024)
+#define HURZELMA_STACK_FEW (9 * 1024)
+#define HURZELMA_FEW_FORMATS 16
 
 /* The two formats of a leg, which may be the same. */
 struct hurzelma_leg {
@@ -56,11 +64,15 @@ struct hurzelma_leg {
 #define HURZELMA_GRANTED 0u
 
 /* The layer that refused. */
-#define HURZELMA_LAYER(told) ((told) >> 16)
-#define HURZELMA_BAY 2
-#define HURZELMA_REGISTER 3
+#define HURZELMA_LAYER(told) ((told) >> 16 & 255u)
+#define HURZELMA_LAYER_TICKET 1u
+#define HURZELMA_LAYER_BAY 2u
+#define HURZELMA_LAYER_REGISTER 3u
 
-/* Why, and the part of the call that is meant; which leg is refused is not told:
+/* The leg of a route that was refused, by its number among those handed in, where a leg was: after bay 11 and 24. Else 0. */
+#define HURZELMA_LEG(told) ((told) >> 24)
+
+/* Why, and the part of the call that is meant:
  *   register 16: the number of formats (part 0), or fewer than n * n cards (1)
  *   bay 11: a leg's first (0) or last (1) format is not below n; of a fork, the input (0), the first output (1) or the second (2)
  *   bay 15: the cost sheet (1) has fewer entries than there are legs, or the chain sheet (2) fewer bytes than their rows; for a fork,
@@ -72,6 +84,42 @@ struct hurzelma_leg {
  *   bay 27: no chain leads from the input of a fork to its first output, or none to its second */
 #define HURZELMA_NUMBER(told) (((told) >> 8) & 255u)
 #define HURZELMA_PART(told) ((told) & 255u)
+
+/* What tells a fault, from its layer, number and part. */
+#define HURZELMA_FAULT(layer, number, part) ((uint32_t)(layer) << 16 | (uint32_t)(number) << 8 | (uint32_t)(part))
+
+/* The numbers of the causes, of whatever layer and part. Those below 10 are a ticket's alone. */
+#define HURZELMA_CAUSE_TICKET_LONG 1u
+#define HURZELMA_CAUSE_BYTE_UNFIT 2u
+#define HURZELMA_CAUSE_OUT_OF_FIELD 3u
+#define HURZELMA_CAUSE_CODE_USED 4u
+#define HURZELMA_CAUSE_NO_FORMAT 11u
+#define HURZELMA_CAUSE_SAME_ENDS 12u
+#define HURZELMA_CAUSE_COST_UNFIT 13u
+#define HURZELMA_CAUSE_SHEET_SHORT 15u
+#define HURZELMA_CAUSE_SIZE_UNFIT 16u
+#define HURZELMA_CAUSE_CARDS_FULL 23u
+#define HURZELMA_CAUSE_LEGS_FULL 24u
+#define HURZELMA_CAUSE_NO_LEGS 25u
+#define HURZELMA_CAUSE_LOOP 26u
+#define HURZELMA_CAUSE_NO_SPLIT 27u
+#define HURZELMA_CAUSE_TABLE_UNFIT 28u
+#define HURZELMA_CAUSE_TABLE_LOOP 29u
+
+/* The part of HURZELMA_CAUSE_NO_FORMAT, of a route and of a fork. */
+#define HURZELMA_PART_FROM 0u
+#define HURZELMA_PART_TO 1u
+#define HURZELMA_PART_INPUT 0u
+#define HURZELMA_PART_FIRST_OUTPUT 1u
+#define HURZELMA_PART_SECOND_OUTPUT 2u
+
+/* No words of a fault have more bytes. */
+#define HURZELMA_WORDS 64
+
+/* Writes the words of a fault, in English and without an end of line, from the start of the place, and their length into *length;
+ * the rest of the place is as it was. Which leg is told does not matter. Each fault that a call tells has words; what tells none
+ * has 0 bytes of them. Answers HURZELMA_WRITTEN, or HURZELMA_PLACE_SHORT where the place is too short and as it was. */
+uint32_t hurzelma_fault_text(uint32_t told, uint8_t *place, size_t place_length, size_t *length);
 
 /* Finds a chain of least cost for every leg over the cards of n formats.
  *
@@ -157,22 +205,31 @@ uint32_t hurzelma_fork_table(const hurzelma_half_lines *place, size_t place_leng
                              hurzelma_half_lines *costs, size_t costs_length,
                              uint8_t *chains, size_t chains_length, size_t *split);
 
-/* What a ticket is told: its answer is written, or the place is too short for it. */
+/* Whether a text is written, or its place is too short for it. */
 #define HURZELMA_WRITTEN 0u
 #define HURZELMA_PLACE_SHORT 1u
 
 /* A ticket may have so many bytes; a longer one is refused. */
 #define HURZELMA_TICKET 32768
 
-/* No answer to a ticket is as long. */
-#define HURZELMA_ANSWER 65536
+/* No answer to a ticket has more bytes. */
+#define HURZELMA_ANSWER 14278
 
-/* Writes the answer to a ticket, its listing or its refusal, from the start of the place, and its length into *length; the rest
- * of the place is as it was. A place that is too short is as it was, and *length is what the answer needs. Any bytes are
- * answered. A ticket and its answer tell delays in lines, with .5 for half a line. docs/GRAMMAR.md says what a ticket looks like,
- * and docs/RULES.md what its answer does. */
-uint32_t hurzelma_answer(const uint8_t *text, size_t text_length,
-                         uint8_t *place, size_t place_length, size_t *length);
+/* What a ticket is told: the layer that refused it, the number of the cause, the part of the call that is meant, and the byte of the
+ * ticket. Where it is granted all four are 0. */
+struct hurzelma_verdict {
+    uint32_t layer;
+    uint32_t number;
+    uint32_t part;
+    size_t byte;
+};
+
+/* Writes the answer to a ticket, its listing or its refusal, from the start of the place, its length into *length, and what it is
+ * told into *verdict; the rest of the place is as it was. A place that is too short is as it was, and *length is what the answer
+ * needs; the verdict is told all the same. Any bytes are answered. A ticket and its answer tell delays in lines, with .5 for half
+ * a line. docs/GRAMMAR.md says what a ticket looks like, and docs/RULES.md what its answer does. */
+uint32_t hurzelma_answer(const uint8_t *text, size_t text_length, uint8_t *place, size_t place_length,
+                         size_t *length, struct hurzelma_verdict *verdict);
 
 #ifdef __cplusplus
 }

@@ -1,11 +1,8 @@
 // The cases of a table, tried.
 use crate::table::Record;
 use anyhow::anyhow;
-use listing::answer_on_stack;
+use listing::{MOST_ANSWER, answer_on_stack};
 use std::alloc::{AllocError, Global};
-
-// More bytes than any answer has.
-const ANSWER_BYTES: usize = 65_536;
 
 // The cases that were tried, and what is known of the next ones.
 #[derive(Drop)]
@@ -27,7 +24,7 @@ impl<'a> Trial<'a> {
             base: &[],
             case: None,
             answers: Vec::new(heap),
-            place: vec![in heap; 0; ANSWER_BYTES]?,
+            place: vec![in heap; 0; MOST_ANSWER]?,
             cases: 0,
             wrong: 0,
         })
@@ -46,7 +43,7 @@ impl<'a> Trial<'a> {
     // Whether the ticket is answered by one of the right answers.
     fn is_right(&mut self, ticket: &[u8]) -> bool {
         let place = self.place.as_mut_slice();
-        let Ok(length) = answer_on_stack(ticket, place) else {
+        let Ok(length) = answer_on_stack(ticket, place).text else {
             return false;
         };
         match place.get(..length) {

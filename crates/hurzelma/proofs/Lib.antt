@@ -1,1 +1,3 @@
+mod EachCause
+mod Legs
 mod Told

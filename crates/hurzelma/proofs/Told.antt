@@ -1,31 +1,21 @@
--- What a host is told of a fork, put together from what the calls below say.
-use Rattle.std.proofs.Common.{◌≡◌, ℕ, ◌*◌, ◌≤◌, List, length, Result}
-use Rattle.std.proofs.Math.Nat.{mul-le-mul}
-use Rattle.std.specs.Result.{result_unwrap_or}
-use Rattle.costs.specs.declared.Cost.{Ghosts as Kind}
-use Rattle.registers.specs.Meaning.{most_formats}
-use Rattle.bay.specs.Buffers.{buffers}
-use Rattle.bay.specs.Faults.{refused}
-use Rattle.bay.specs.declared.cells.Cell.{Cell}
-use Rattle.bay.specs.declared.fault.BayFault.{BayFault}
-use Rattle.direct.specs.Forks.{CardsForked}
-use Rattle.hurzelma.specs.Host.{ForkTold, status}
+-- The words of the first of some causes that is told, cause by cause.
+use Rattle.std.proofs.Common.{◌≡◌, ℕ, ◌+◌, ◌<◌, cond, List, length, get_or, drop, ◌==◌, sym, ap, ◌∙◌}
+use Rattle.std.proofs.lemmas.Bool.{cond-true, cond-false, eq-eqb, ne_eqb}
+use Rattle.std.proofs.lemmas.List.{drop_more}
+use Rattle.hurzelma.specs.Words.{cause_number, cause_words, words_in}
+use Rattle.hurzelma.specs.declared.words.Cause.{Cause}
 
--- the large table is long enough for any number of formats
-pub cells_enough : (n : ℕ) → n ≤ most_formats → n * n ≤ 4096
-cells_enough n few = mul-le-mul few few
+module _ (cs : List Cause) (told k : ℕ) where
+  -- none of the first k is told
+  abbrev pub So : Type 0
+  So = words_in cs told ≡ words_in (drop k cs) told
 
-pub fork_told : {C : Type 0} (K : Kind C) (n : ℕ) (cards : List C) (input first second : ℕ) (costs costs' : List C) (chains chains' : List ℕ) (split split' r : ℕ)
-    (table table' : List (Cell C)) (answer : Result ℕ BayFault) →
-    CardsForked K n cards input first second (buffers table costs chains) (buffers table' costs' chains') answer →
-    split' ≡ result_unwrap_or answer split → r ≡ status (refused answer) → (n ≤ most_formats → n * n ≤ length table) →
-    ForkTold K n cards input first second costs costs' chains chains' split split' r
-fork_told K n cards input first second costs costs' chains chains' split split' r table table' answer right split_is number room = record {
-  table = table;
-  table' = table';
-  room = room;
-  answer = answer;
-  right = right;
-  split_is = split_is;
-  number = number;
-}
+  module _ (d : Cause) (n : ℕ) (inside : k < length cs) (number : n ≡ cause_number (get_or cs k d)) (so : So) where
+    next : words_in cs told ≡ cond (cause_number (get_or cs k d) == told) (cause_words (get_or cs k d)) (words_in (drop (k + 1) cs) told)
+    next = so ∙ ap (λ l. words_in l told) (drop_more cs k d inside)
+
+    pub here : (w : List ℕ) → w ≡ cause_words (get_or cs k d) → n ≡ told → w ≡ words_in cs told
+    here w words e = words ∙ sym (next ∙ cond-true _ _ _ (eq-eqb _ _ (sym number ∙ e)))
+
+    pub further : (n ≡ told → ⊥) → words_in cs told ≡ words_in (drop (k + 1) cs) told
+    further e = next ∙ cond-false _ _ _ (ne_eqb _ _ (λ h. e (number ∙ h)))

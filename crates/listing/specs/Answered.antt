@@ -15,7 +15,7 @@ use Rattle.ticket.specs.Said.{ticket_entries}
 use Rattle.ticket.specs.declared.fault.Refusal.{Refusal}
 use Rattle.ticket.specs.declared.serve.BayLine.{BayLine}
 use Rattle.ticket_laws.specs.Whole.{Whole}
-use Rattle.listing.specs.declared.answer.PlaceShort.{PlaceShort}
+use Rattle.listing.specs.declared.answer.TicketAnswer.{TicketAnswer}
 use Rattle.listing.specs.Output.{Printed}
 use Rattle.listing.specs.Text.{code_line, text_from}
 
@@ -35,27 +35,31 @@ WholeIf K T text bay m (Err refusal) = Unit {0}
 
 -- A ticket whose bay line was read is answered; a granted one has least chains for its legs over the cards that its text says;
 -- and its answer's text, from what is then in the memory, is printed into the place.
-pub record Answered {C : Type 0} (K : CostKind C) (T : CostTexts C) (text : List ℕ) (bay : BayLine) (m m' : Contents C) (place place' : List ℕ) (r : Result ℕ PlaceShort) : Type 0 where
-  pub answer : Result ℕ Refusal
-  pub right : KindAnswer K (read_as bay.kind T.reads) text bay.end m m' answer bay.size
-  pub whole : WholeIf K T text bay m' answer
-  pub printed : Printed place place' (text_from T.writes m' answer) r
+pub record Answered {C : Type 0} (K : CostKind C) (T : CostTexts C) (text : List ℕ) (bay : BayLine) (m m' : Contents C) (place place' : List ℕ) (a : TicketAnswer) : Type 0 where
+  pub right : KindAnswer K (read_as bay.kind T.reads) text bay.end m m' a.verdict bay.size
+  pub whole : WholeIf K T text bay m' a.verdict
+  pub printed : Printed place place' (text_from T.writes m' a.verdict) a.text
 
 -- The same in some memory that will do for every ticket, so that no memory is ever too short.
-pub record ListedOf {C : Type 0} (K : CostKind C) (T : CostTexts C) (text : List ℕ) (bay : BayLine) (place place' : List ℕ) (r : Result ℕ PlaceShort) : Type 0 where
+pub record ListedOf {C : Type 0} (K : CostKind C) (T : CostTexts C) (text : List ℕ) (bay : BayLine) (place place' : List ℕ) (a : TicketAnswer) : Type 0 where
   pub before : Contents C
   pub after : Contents C
   pub ample : Ample before
-  pub answered : Answered K T text bay before after place place' r
+  pub answered : Answered K T text bay before after place place' a
 
 -- what is listed of a ticket of each kind
-abbrev pub ListedAs : Kind → List ℕ → BayLine → List ℕ → List ℕ → Result ℕ PlaceShort → Type 0
+abbrev pub ListedAs : Kind → List ℕ → BayLine → List ℕ → List ℕ → TicketAnswer → Type 0
 ListedAs kind.Delay = ListedOf delays delay_texts
 ListedAs kind.Depth = ListedOf depths depth_texts
 ListedAs kind.Both = ListedOf boths both_texts
 
+-- a ticket is refused at its first line
+pub record RefusedAtBay (text place place' : List ℕ) (a : TicketAnswer) : Type 0 where
+  pub refusal : Refusal
+  pub answers : BayAnswer text (Err refusal)
+  pub verdict : a.verdict ≡ Err refusal
+  pub printed : Printed place place' (code_line (ticket_code refusal.fault) refusal.byte) a.text
+
 -- A ticket is refused at its first line, or answered as its kind is.
-abbrev pub Listed : List ℕ → List ℕ → List ℕ → Result ℕ PlaceShort → Type 0
-Listed text place place' r =
-    ((refusal : Refusal) × BayAnswer text (Err refusal) × Printed place place' (code_line (ticket_code refusal.fault) refusal.byte) r) ⊎
-    ((bay : BayLine) × HasBay text bay × ListedAs bay.kind text bay place place' r)
+abbrev pub Listed : List ℕ → List ℕ → List ℕ → TicketAnswer → Type 0
+Listed text place place' a = RefusedAtBay text place place' a ⊎ ((bay : BayLine) × HasBay text bay × ListedAs bay.kind text bay place place' a)

@@ -1,3 +1,4 @@
 pub mod Output
 pub mod Text
+pub mod Lengths
 pub mod Answered

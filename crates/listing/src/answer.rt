@@ -1,9 +1,11 @@
 // The text of an answer, whole.
-ghost use Rattle.std.specs.Prelude.{◌≡◌, ◌==◌, map, slice_index_or};
+ghost use Rattle.std.specs.Prelude.{◌≡◌, ◌≤◌, ◌==◌, length, map, slice_index_or};
+ghost use Rattle.bay.specs.Sheet.{most_in_row};
 ghost use Rattle.ticket.specs.Answers.{SameMemory, contents};
 ghost use Rattle.ticket.specs.Faults.{ticket_code};
 ghost use Rattle.ticket.specs.Texts.{texts};
 ghost use Rattle.listing.specs.Answered.{Answered};
+ghost use Rattle.listing.specs.Lengths.{Brief, most_answer, most_loop};
 ghost use Rattle.listing.specs.Output.{Writes, Printed};
 ghost use Rattle.listing.specs.Text.{answer_text, code_line, listing_text, loop_number, loop_text};
 ghost use Rattle.listing.specs.Text.{no_amount, refusal_text, text_from};
@@ -17,6 +19,9 @@ use ticket::{
     BayLine, Ends, FourCc, MOST_CODES, MOST_LEGS, Memory, Refusal, TicketCost, TicketFault,
     route_ticket,
 };
+
+// No text of an answer has more bytes.
+pub const MOST_ANSWER: usize = 14_278;
 
 // The memory of a ticket, as it is read to write its answer.
 #[derive(Clone, Copy)]
@@ -38,8 +43,10 @@ fn amount_at<C: TicketCost>(costs: &[C], k: usize) -> Amount
 
 // A line for each leg, and the end line.
 fn put_listing<C: TicketCost>(out: &mut Output, view: &View<'_, C>, legs: usize)
-    ensures { Writes out.old out.new (listing_text view.now.codes.now view.now.ends.now
-        (map C.writes view.now.costs.now) view.now.chains.now legs) }
+    ensures written { Writes out.old out.new (listing_text view.now.codes.now
+        view.now.ends.now (map C.writes view.now.costs.now) view.now.chains.now legs) }
+    ensures short { length (listing_text view.now.codes.now view.now.ends.now
+        (map C.writes view.now.costs.now) view.now.chains.now legs) ≤ most_answer }
 {
     for (k, leg) in view.ends[..legs.min(MOST_LEGS)].iter().enumerate() {
         let cost = amount_at(view.costs, k);
@@ -51,7 +58,9 @@ fn put_listing<C: TicketCost>(out: &mut Output, view: &View<'_, C>, legs: usize)
 
 // The line of a loop.
 fn put_loop(out: &mut Output, codes: &[FourCc; MOST_CODES], formats: &[u8])
-    ensures { Writes out.old out.new (loop_text codes.now formats.now) }
+    requires { length formats.now ≤ most_in_row }
+    ensures written { Writes out.old out.new (loop_text codes.now formats.now) }
+    ensures short { length (loop_text codes.now formats.now) ≤ most_loop }
 {
     out.put(b"(loop (");
     put_codes(out, codes, formats);
@@ -68,7 +77,8 @@ fn is_loop(fault: TicketFault) -> bool
 
 // The line of a refusal, and that of the loop if there is one.
 fn put_refusal(out: &mut Output, chains: &[u8], codes: &[FourCc; MOST_CODES], refusal: Refusal)
-    ensures { Writes out.old out.new (refusal_text codes.now chains.now refusal) }
+    ensures written { Writes out.old out.new (refusal_text codes.now chains.now refusal) }
+    ensures short { length (refusal_text codes.now chains.now refusal) ≤ most_answer }
 {
     put_code_line(out, refusal.fault.code(), refusal.byte);
     if is_loop(refusal.fault) {
@@ -78,8 +88,10 @@ fn put_refusal(out: &mut Output, chains: &[u8], codes: &[FourCc; MOST_CODES], re
 
 // The whole text.
 fn put_answer<C: TicketCost>(out: &mut Output, answer: &Result<usize, Refusal>, view: &View<'_, C>)
-    ensures { Writes out.old out.new (answer_text view.now.codes.now view.now.ends.now
-        (map C.writes view.now.costs.now) view.now.chains.now answer.now) }
+    ensures written { Writes out.old out.new (answer_text view.now.codes.now
+        view.now.ends.now (map C.writes view.now.costs.now) view.now.chains.now answer.now) }
+    ensures short { length (answer_text view.now.codes.now view.now.ends.now
+        (map C.writes view.now.costs.now) view.now.chains.now answer.now) ≤ most_answer }
 {
     match answer {
         Ok(legs) => put_listing(out, view, *legs),
@@ -100,8 +112,10 @@ pub fn write_answer<C: TicketCost>(
     answer: &Result<usize, Refusal>,
     view: View<'_, C>,
 ) -> Result<usize, PlaceShort>
-    ensures { Printed place.old place.new (answer_text view.entry.codes.now view.entry.ends.now
-        (map C.writes view.entry.costs.now) view.entry.chains.now answer.now) result }
+    ensures printed { Printed place.old place.new (answer_text view.entry.codes.now
+        view.entry.ends.now (map C.writes view.entry.costs.now) view.entry.chains.now
+        answer.now) result }
+    ensures brief { Brief place.old result }
 {
     let mut nothing: [u8; 0] = [];
     let mut count = Output::new(&mut nothing);
@@ -117,8 +131,9 @@ pub fn write_answer<C: TicketCost>(
 
 // Writes the line of a ticket that is refused at its first line.
 pub fn write_refusal(place: &mut [u8], refusal: Refusal) -> Result<usize, PlaceShort>
-    ensures { let line = code_line (ticket_code refusal.fault) refusal.byte in
+    ensures printed { let line = code_line (ticket_code refusal.fault) refusal.byte in
         Printed place.old place.new line result }
+    ensures brief { Brief place.old result }
 {
     let mut nothing: [u8; 0] = [];
     let mut count = Output::new(&mut nothing);
@@ -139,8 +154,9 @@ fn write_lent<C: TicketCost>(
     answer: &Result<usize, Refusal>,
     memory: &Memory<'_, C>,
 ) -> Result<usize, PlaceShort>
-    ensures { let text = text_from C.writes (contents memory.now) answer.now in
+    ensures printed { let text = text_from C.writes (contents memory.now) answer.now in
         Printed place.old place.new text result }
+    ensures brief { Brief place.old result }
 {
     let view = View {
         costs: memory.costs,
@@ -151,18 +167,27 @@ fn write_lent<C: TicketCost>(
     write_answer(place, answer, view)
 }
 
-// Routes a ticket whose first line was read, and writes the text of its answer, in memory that is lent. The answer is that of
-// `route_ticket`, and its text that of `write_answer`.
+// What a ticket is told: how many legs it has or why it is refused, and how long the text of that is or how much it needs.
+#[derive(Clone, Copy, Debug, PartialEq, Eq)]
+pub struct TicketAnswer {
+    pub verdict: Result<usize, Refusal>,
+    pub text: Result<usize, PlaceShort>,
+}
+
+// Routes a ticket whose first line was read, and writes the text of its answer, in memory that is lent. The verdict is that of
+// `route_ticket`, and the text that of `write_answer`.
 pub fn answer_ticket<C: TicketCost>(
     text: &[u8],
     bay: BayLine,
     memory: &mut Memory<'_, C>,
     place: &mut [u8],
-) -> Result<usize, PlaceShort>
-    ensures answer { Answered C.Cost (texts C.reads C.writes) text.now bay (contents memory.old)
-        (contents memory.new) place.old place.new result }
+) -> TicketAnswer
+    ensures answer { Answered C.Cost (texts C.reads C.writes) text.now bay
+        (contents memory.old) (contents memory.new) place.old place.new result }
+    ensures brief { Brief place.old result.text }
     ensures same { SameMemory memory.old memory.new }
 {
-    let answer = route_ticket(text, bay, memory);
-    write_lent(place, &answer, memory)
+    let verdict = route_ticket(text, bay, memory);
+    let text = write_lent(place, &verdict, memory);
+    TicketAnswer { verdict, text }
 }

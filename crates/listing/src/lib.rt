@@ -6,5 +6,7 @@ mod on_stack;
 mod output;
 mod text;
 
-pub use answer::{PlaceShort, View, answer_ticket, write_answer, write_refusal};
+pub use answer::{
+    MOST_ANSWER, PlaceShort, TicketAnswer, View, answer_ticket, write_answer, write_refusal,
+};
 pub use on_stack::answer_on_stack;

@@ -1,15 +1,21 @@
 // Tickets answered in memory of our own, for those who have none to lend.
-ghost use Rattle.std.specs.Prelude.{◌≡◌};
+ghost use Rattle.std.specs.Prelude.{◌≡◌, Err};
 ghost use Rattle.ticket.specs.Answers.{HasBay};
+ghost use Rattle.ticket.specs.Faults.{ticket_code};
 ghost use Rattle.ticket.specs.Texts.{delay_texts, depth_texts, both_texts};
 ghost use Rattle.costs.specs.Kinds.{delays, depths, boths};
 ghost use Rattle.listing.specs.Answered.{Listed, ListedOf};
+ghost use Rattle.listing.specs.Lengths.{Brief};
+ghost use Rattle.listing.specs.Output.{Printed};
+ghost use Rattle.listing.specs.Text.{code_line};
 
-use crate::answer::{PlaceShort, answer_ticket, write_refusal};
+use crate::answer::{TicketAnswer, answer_ticket, write_refusal};
 use bay::Cell;
 use costs::{Cost, Delay, Depth, Pair};
 use lines::Kind;
-use ticket::{BayLine, CHAIN_BYTES, Ends, MOST_CODES, MOST_LEGS, Memory, TICKET_ENTRIES, read_bay};
+use ticket::{
+    BayLine, CHAIN_BYTES, Ends, MOST_CODES, MOST_LEGS, Memory, Refusal, TICKET_ENTRIES, read_bay,
+};
 
 // As many cells as a register of the most formats wants: each format has a code.
 const CELLS: usize = MOST_CODES * MOST_CODES;
@@ -33,30 +39,47 @@ macro_rules! answered {
 // Each kind has a function of its own, so that the memory of one kind alone is taken.
 
 #[inline(never)]
-fn answer_delays(text: &[u8], bay: BayLine, place: &mut [u8]) -> Result<usize, PlaceShort>
-    ensures { ListedOf delays delay_texts text.now bay place.old place.new result }
+fn answer_delays(text: &[u8], bay: BayLine, place: &mut [u8]) -> TicketAnswer
+    ensures listed { ListedOf delays delay_texts text.now bay place.old place.new result }
+    ensures brief { Brief place.old result.text }
 {
     answered!(Delay, text, bay, place)
 }
 
 #[inline(never)]
-fn answer_depths(text: &[u8], bay: BayLine, place: &mut [u8]) -> Result<usize, PlaceShort>
-    ensures { ListedOf depths depth_texts text.now bay place.old place.new result }
+fn answer_depths(text: &[u8], bay: BayLine, place: &mut [u8]) -> TicketAnswer
+    ensures listed { ListedOf depths depth_texts text.now bay place.old place.new result }
+    ensures brief { Brief place.old result.text }
 {
     answered!(Depth, text, bay, place)
 }
 
 #[inline(never)]
-fn answer_boths(text: &[u8], bay: BayLine, place: &mut [u8]) -> Result<usize, PlaceShort>
-    ensures { ListedOf boths both_texts text.now bay place.old place.new result }
+fn answer_boths(text: &[u8], bay: BayLine, place: &mut [u8]) -> TicketAnswer
+    ensures listed { ListedOf boths both_texts text.now bay place.old place.new result }
+    ensures brief { Brief place.old result.text }
 {
     answered!(Pair<Delay, Depth>, text, bay, place)
 }
 
-// Routes a ticket and writes the text of its answer. It works in some hundred thousand bytes of the stack, and allocates
-// nothing.
-pub fn answer_on_stack(text: &[u8], place: &mut [u8]) -> Result<usize, PlaceShort>
-    ensures { Listed text.now place.old place.new result }
+// A ticket that is refused at its first line.
+fn answer_refused(refusal: Refusal, place: &mut [u8]) -> TicketAnswer
+    ensures verdict { result.verdict ≡ Err refusal }
+    ensures printed { let line = code_line (ticket_code refusal.fault) refusal.byte in
+        Printed place.old place.new line result.text }
+    ensures brief { Brief place.old result.text }
+{
+    TicketAnswer {
+        verdict: Err(refusal),
+        text: write_refusal(place, refusal),
+    }
+}
+
+// Routes a ticket and writes the text of its answer, which has `MOST_ANSWER` bytes at most. It works in some sixty thousand
+// bytes of the stack, and allocates nothing.
+pub fn answer_on_stack(text: &[u8], place: &mut [u8]) -> TicketAnswer
+    ensures listed { Listed text.now place.old place.new result }
+    ensures brief { Brief place.old result.text }
 {
     match read_bay(text) {
         Ok(bay) => match bay.kind {
@@ -64,6 +87,6 @@ pub fn answer_on_stack(text: &[u8], place: &mut [u8]) -> Result<usize, PlaceShor
             Kind::Depth => answer_depths(text, bay, place),
             Kind::Both => answer_boths(text, bay, place),
         },
-        Err(refusal) => write_refusal(place, refusal),
+        Err(refusal) => answer_refused(refusal, place),
     }
 }

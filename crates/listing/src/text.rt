@@ -1,7 +1,9 @@
 // The lines of an answer.
-ghost use Rattle.std.specs.Prelude.{◌≡◌, ◌≤◌};
+ghost use Rattle.std.specs.Prelude.{◌≡◌, ◌+◌, ◌*◌, ◌≤◌, length};
 ghost use Rattle.registers.specs.Meaning.{most_formats};
+ghost use Rattle.bay.specs.Sheet.{most_in_row};
 ghost use Rattle.registers.specs.Text.{layer_text};
+ghost use Rattle.listing.specs.Lengths.{most_found, most_line, most_refusal};
 ghost use Rattle.listing.specs.Output.{Writes};
 ghost use Rattle.listing.specs.Text.{formats_of, fourcc_text, fourccs_text, found_text, leg_text, code_line};
 
@@ -14,7 +16,8 @@ use ticket::{Ends, FourCc, MOST_CODES};
 // The formats of row `k`, as many as its number says.
 pub(crate) fn row_formats(chains: &[u8], k: usize) -> &[u8]
     requires { k ≤ most_formats }
-    ensures { result.now ≡ formats_of chains.now k }
+    ensures formats { result.now ≡ formats_of chains.now k }
+    ensures few { length result.now ≤ most_in_row }
 {
     let start = chains.len().min(ROW * k);
     let end = chains.len().min(ROW * k + ROW);
@@ -26,7 +29,8 @@ pub(crate) fn row_formats(chains: &[u8], k: usize) -> &[u8]
 
 // The code of a format. Output and codes are two arguments: a place of bytes knows no codes, and counting a text writes it too.
 fn put_code(out: &mut Output, codes: &[FourCc; MOST_CODES], format: u8)
-    ensures { Writes out.old out.new (fourcc_text codes.now format) }
+    ensures written { Writes out.old out.new (fourcc_text codes.now format) }
+    ensures short { length (fourcc_text codes.now format) ≤ 4 }
 {
     if let Some(code) = codes.get(format as usize) {
         out.put(code);
@@ -35,7 +39,9 @@ fn put_code(out: &mut Output, codes: &[FourCc; MOST_CODES], format: u8)
 
 // The codes of some formats, with a space between them.
 pub(crate) fn put_codes(out: &mut Output, codes: &[FourCc; MOST_CODES], formats: &[u8])
-    ensures { Writes out.old out.new (fourccs_text codes.now formats.now) }
+    ensures written { Writes out.old out.new (fourccs_text codes.now formats.now) }
+    ensures short { length (fourccs_text codes.now formats.now)
+        ≤ 5 * length formats.now }
 {
     let Some((first, others)) = formats.split_first() else {
         return;
@@ -49,7 +55,9 @@ pub(crate) fn put_codes(out: &mut Output, codes: &[FourCc; MOST_CODES], formats:
 
 // What was found for a leg.
 fn put_found(out: &mut Output, codes: &[FourCc; MOST_CODES], cost: Amount, formats: &[u8])
-    ensures { Writes out.old out.new (found_text codes.now cost formats.now) }
+    requires { length formats.now ≤ most_in_row }
+    ensures written { Writes out.old out.new (found_text codes.now cost formats.now) }
+    ensures short { length (found_text codes.now cost formats.now) ≤ most_found }
 {
     if formats.is_empty() {
         out.put(b"none");
@@ -70,7 +78,9 @@ pub(crate) fn put_leg(
     cost: Amount,
     formats: &[u8],
 )
-    ensures { Writes out.old out.new (leg_text codes.now k ends cost formats.now) }
+    requires { length formats.now ≤ most_in_row }
+    ensures written { Writes out.old out.new (leg_text codes.now k ends cost formats.now) }
+    ensures short { length (leg_text codes.now k ends cost formats.now) ≤ most_line }
 {
     out.put(b"(leg ");
     out.put_number(k);
@@ -86,7 +96,8 @@ pub(crate) fn put_leg(
 
 // The word for a layer, as bytes: its `Display` has the same word, but a listing is no `fmt::Write`.
 fn layer_word(layer: Layer) -> &'static [u8]
-    ensures { result.now ≡ layer_text layer }
+    ensures word { result.now ≡ layer_text layer }
+    ensures short { length result.now ≤ 8 }
 {
     match layer {
         Layer::Ticket => b"ticket",
@@ -97,7 +108,8 @@ fn layer_word(layer: Layer) -> &'static [u8]
 
 // The line of a refusal.
 pub(crate) fn put_code_line(out: &mut Output, code: Code, byte: usize)
-    ensures { Writes out.old out.new (code_line code byte) }
+    ensures written { Writes out.old out.new (code_line code byte) }
+    ensures short { length (code_line code byte) ≤ most_refusal }
 {
     out.put(b"(refused ");
     out.put(layer_word(code.layer));

@@ -3,15 +3,12 @@
 #![tactic(auto)]
 
 use anyhow::{Context, anyhow};
-use listing::answer_on_stack;
+use listing::{MOST_ANSWER, answer_on_stack};
 use std::env::{Env, FillError};
 use std::io;
 use std::io::{IsTerminal, Read, Write};
 use std::process::ExitCode;
 use ticket::MOST_BYTES;
-
-// More bytes than any answer has.
-const ANSWER_BYTES: usize = 65_536;
 
 // More bytes than any argument that is known has.
 const ARGUMENT_BYTES: usize = 16;
@@ -80,10 +77,9 @@ fn print_answer(rt: &HostRuntime) -> anyhow::Result<()> {
         let _ = rt.eprintln(HINT);
     }
     let text = read_ticket(rt).context("cannot read the ticket")?;
-    let mut place = vec![in rt.alloc(); 0; ANSWER_BYTES].context("cannot hold the answer")?;
-    let length = answer_on_stack(text.as_slice(), place.as_mut_slice()).map_err(|_| anyhow!(
-        "the answer is too long"
-    ))?;
+    let mut place = vec![in rt.alloc(); 0; MOST_ANSWER].context("cannot hold the answer")?;
+    let answer = answer_on_stack(text.as_slice(), place.as_mut_slice());
+    let length = answer.text.map_err(|_| anyhow!("the answer is too long"))?;
     place.truncate(length);
     rt.stdout()
         .write_all(place.as_slice())

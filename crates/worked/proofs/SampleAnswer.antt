@@ -19,7 +19,7 @@ use Rattle.lines.specs.declared.line.Kind.TheVariants as kind
 use Rattle.lines.specs.declared.line.Line.{Line}
 use Rattle.lines.specs.declared.line.Line.TheVariants.{Bay}
 use Rattle.lines.specs.declared.line.Stage.TheVariants.{Start}
-use Rattle.ticket.specs.Answers.{Contents, HasBay, KindAnswer, LinesAnswer}
+use Rattle.ticket.specs.Answers.{BayAnswer, Contents, HasBay, KindAnswer, LinesAnswer}
 use Rattle.ticket.specs.Faults.{told_by, at_byte}
 use Rattle.ticket.specs.Kinds.{delay_of}
 use Rattle.bay.specs.Buffers.{in_front}
@@ -32,6 +32,7 @@ use Rattle.listing.specs.Answered.{Ample, ListedAs, ListedOf}
 use Rattle.listing.specs.Output.{Printed}
 use Rattle.listing.specs.Text.{listing_text, leg_text, formats_of, no_amount, text_from, pieces}
 use Rattle.listing.specs.declared.answer.PlaceShort.{PlaceShort}
+use Rattle.listing.specs.declared.answer.TicketAnswer.{TicketAnswer}
 use Rattle.worked.specs.Sample.{sample_ticket, sample_listing, SampleAnswered}
 use Rattle.worked.proofs.SampleLines.{bay_read, bay_is_read, delay_read, sample_said, sample_completes}
 use Rattle.worked.proofs.SampleRoute.{sample_granted}
@@ -133,19 +134,23 @@ bay_is bay t =
     let end_is : bay.end ≡ 14 = sym t.end_is ∙ ap (λ r. r.end) same in
     λ i. record { kind = kind_is i; size = size_is i; end = end_is i }
 
-listed_is : (place place' : List ℕ) (r : Result ℕ PlaceShort) → length sample_listing ≤ length place → ListedOf delays delay_texts sample_ticket sample_bay place place' r →
-    (r ≡ Ok (length sample_listing)) × (place' ≡ sample_listing ++ drop (length sample_listing) place)
-listed_is place place' r h l =
+listed_is : (place place' : List ℕ) (a : TicketAnswer) → length sample_listing ≤ length place → ListedOf delays delay_texts sample_ticket sample_bay place place' a →
+    (a.text ≡ Ok (length sample_listing)) × (place' ≡ sample_listing ++ drop (length sample_listing) place)
+listed_is place place' a h l =
     let m = l.before in
     let m' = l.after in
-    let t = of_kind m m' l.ample l.answered.answer l.answered.right in
-    printed_is place place' _ r
+    let t = of_kind m m' l.ample a.verdict l.answered.right in
+    printed_is place place' _ a.text
     (ap (text_from delay_texts.writes m') t.answers
     ∙ lists m'.codes m'.ends (map delay_texts.writes m'.buffers.costs) m'.buffers.chains (drop 3 m.codes) (drop 2 m.ends) t.codes_are t.ends_are t.paid t.row_0 t.row_1)
     h l.answered.printed
 
+-- it is not refused at its first line
+not_refused : (refusal : Refusal) → BayAnswer sample_ticket (Err refusal) → ⊥
+not_refused refusal (inl over) = omega (arith, over.long)
+not_refused refusal (inr none) = not_both Start sample_ticket 0 bay_read refusal.byte bay_is_read none.refused
+
 pub sample_answered : SampleAnswered
-sample_answered place place' r h (inl (refusal, inl over, printed)) = absurd (omega (arith, over.long))
-sample_answered place place' r h (inl (refusal, inr none, printed)) = absurd (not_both Start sample_ticket 0 bay_read refusal.byte bay_is_read none.refused)
-sample_answered place place' r h (inr (bay, has, listed)) =
-    listed_is place place' r h (subst (λ b. ListedAs b.kind sample_ticket b place place' r) (bay_is bay has) listed)
+sample_answered place place' a h (inl t) = absurd (not_refused t.refusal t.answers)
+sample_answered place place' a h (inr (bay, has, listed)) =
+    listed_is place place' a h (subst (λ b. ListedAs b.kind sample_ticket b place place' a) (bay_is bay has) listed)

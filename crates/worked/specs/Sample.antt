@@ -1,8 +1,8 @@
 -- The sample ticket: its text, and the text of its answer.
-use Rattle.std.specs.Prelude.{◌≡◌, ℕ, ◌≤◌, List, [], ◌∷◌, ◌++◌, length, drop, Ok, codes, Result}
+use Rattle.std.specs.Prelude.{◌≡◌, ℕ, ◌≤◌, List, [], ◌∷◌, ◌++◌, length, drop, Ok, codes}
 use Rattle.listing.specs.Answered.{Listed}
 use Rattle.listing.specs.Text.{pieces}
-use Rattle.listing.specs.declared.answer.PlaceShort.{PlaceShort}
+use Rattle.listing.specs.declared.answer.TicketAnswer.{TicketAnswer}
 
 -- a line, with its end
 abbrev pub line : List ℕ → List ℕ
@@ -29,5 +29,5 @@ sample_listing = pieces (
 
 -- Whatever the place holds, if it has room for the listing, the listing is written there, and nothing else is.
 abbrev pub SampleAnswered : Type 0
-SampleAnswered = (place place' : List ℕ) (r : Result ℕ PlaceShort) → length sample_listing ≤ length place → Listed sample_ticket place place' r →
-    (r ≡ Ok (length sample_listing)) × (place' ≡ sample_listing ++ drop (length sample_listing) place)
+SampleAnswered = (place place' : List ℕ) (a : TicketAnswer) → length sample_listing ≤ length place → Listed sample_ticket place place' a →
+    (a.text ≡ Ok (length sample_listing)) × (place' ≡ sample_listing ++ drop (length sample_listing) place)

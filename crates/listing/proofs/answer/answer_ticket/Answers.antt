@@ -15,8 +15,7 @@ whole_if K T text bay m m' (Err refusal) right = tt
 
 pub returns-clause-answer : goal.returns-clause-answer
 returns-clause-answer g c = record {
-  answer = c.route_ticket-answer.result;
-  right = c.route_ticket-answer.ensures.answer;
-  whole = whole_if g.C.Cost (texts g.C.TicketCost.reads g.C.TicketCost.writes) _ _ _ _ c.route_ticket-answer.result c.route_ticket-answer.ensures.answer;
-  printed = c.write_lent.ensures;
+  right = c.route_ticket-verdict.ensures.answer;
+  whole = whole_if g.C.Cost (texts g.C.TicketCost.reads g.C.TicketCost.writes) _ _ _ _ c.route_ticket-verdict.result c.route_ticket-verdict.ensures.answer;
+  printed = c.write_lent-text.ensures.printed;
 }
